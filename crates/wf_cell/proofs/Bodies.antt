@@ -5,7 +5,7 @@ use Rattle.wf_frame.specs.declared.classes.Fate.{Fate}
 use Rattle.wf_frame.specs.declared.notes.Ask.{Ask}
 use Rattle.wf_frame.specs.declared.notes.Ask.TheVariants as ask
 use Rattle.wf_frame.specs.declared.notes.Note.TheVariants.{Asked}
-use Rattle.wf_frame.specs.declared.notes.Part.TheVariants.{Mpdus, Batch}
+use Rattle.wf_frame.specs.declared.notes.Part.TheVariants.{Mpdus, Batch, Plain}
 use Rattle.wf_frame.specs.declared.notes.ReplyNote.{ReplyNote}
 use Rattle.wf_frame.specs.declared.notes.ReplyNote.TheVariants as reply
 use Rattle.wf_law_rules.proofs.Lemmas.Numbers.{on_bool}
@@ -35,6 +35,8 @@ use Rattle.wf_cell.proofs.Rights.{on_the_list}
 sent_body : (answered : ReplyNote) (bodies : ℕ → FrameValue) (id : ℕ) →
     (bodies_sent answered bodies id).body ≡ (bodies id).body
 sent_body (reply.Send exchange station tid air (Mpdus pairs) more) bodies id =
+    all_sent_keep (λ (f : FrameValue). f.body) (λ f. refl) pairs bodies id
+sent_body (reply.Send exchange station tid air (Plain pairs) more) bodies id =
     all_sent_keep (λ (f : FrameValue). f.body) (λ f. refl) pairs bodies id
 sent_body (reply.Send exchange station tid air (Batch ids) more) bodies id =
     all_sent_keep (λ (f : FrameValue). f.body) (λ f. refl) (map (λ k. (k, 0)) ids) bodies id
@@ -115,6 +117,11 @@ module _ (v : TransmitValue) (w : World) (bodies : ℕ → FrameValue) (stands :
   by_call ask reply.Started id = stays id
   by_call ask reply.Marked id = stays id
   by_call ask (reply.Flushed dropped) id = stays id
+  by_call ask reply.Ack id = stays id
+  by_call ask (reply.Held start) id = stays id
+  by_call ask reply.Begun id = stays id
+  by_call ask reply.Freed id = stays id
+  by_call ask (reply.Ceased dropped released) id = stays id
   by_call ask (reply.Polled class) id = stays id
   by_call ask (reply.Charged deficit) id = stays id
   by_call ask (reply.Reaped gone fate) id = goes gone id
@@ -140,6 +147,11 @@ module _ (v : TransmitValue) (w : World) (bodies : ℕ → FrameValue) (stands :
   by_reply (Give f) reply.Started id next = stays id
   by_reply (Give f) reply.Marked id next = stays id
   by_reply (Give f) (reply.Flushed dropped) id next = stays id
+  by_reply (Give f) reply.Ack id next = stays id
+  by_reply (Give f) (reply.Held start) id next = stays id
+  by_reply (Give f) reply.Begun id next = stays id
+  by_reply (Give f) reply.Freed id next = stays id
+  by_reply (Give f) (reply.Ceased dropped released) id next = stays id
   by_reply (Give f) (reply.Polled class) id next = stays id
   by_reply (Give f) (reply.Charged deficit) id next = stays id
   by_reply (Give f) (reply.Reaped gone fate) id next = goes gone id
@@ -203,6 +215,11 @@ reaped_body v w bodies job answered back stands told given id fate is =
     of (Call (ask.Flush s t)) e = tt
     of (Call (ask.Offload s exponent weight)) e = tt
     of (Call (ask.Weight s weight)) e = tt
+    of (Call (ask.Plain s start exponent weight)) e = tt
+    of (Call (ask.Hold s t)) e = tt
+    of (Call (ask.Begin s t window)) e = tt
+    of (Call (ask.Free s t)) e = tt
+    of (Call (ask.Cease s t)) e = tt
 
 -- an id has a body exactly if its frame is inside
 pub ids_inside : (v : TransmitValue) (w : World) (bodies : ℕ → FrameValue) → StandsFor v w bodies → (id : ℕ) →

@@ -1,10 +1,11 @@
 -- Proves the effect of each call on an engine, from the effect on its path, its receive halves and its marks.
-use Rattle.std.proofs.Common.{◌≡◌, refl, ap, sym, ◌∙◌, subst, ℕ, ◌<◌, ◌++◌, Bool, true, false, List, [], ◌∷◌, Option, Some, None, length}
+use Rattle.std.proofs.Common.{◌≡◌, refl, ap, sym, ◌∙◌, subst, arith, ℕ, ◌<◌, ◌≤◌, ◌++◌, Bool, true, false, List, [], ◌∷◌, Option, Some, None, length}
 use Rattle.std.specs.Prelude.{is_none, ◌||◌, All}
 use Rattle.wf_frame.specs.Answers.{reply_with}
 use Rattle.wf_frame.specs.Frames.{FrameValue}
 use Rattle.wf_frame.specs.declared.answers.Brief.{Brief}
 use Rattle.wf_frame.specs.declared.answers.Brief.TheVariants as brief
+use Rattle.wf_frame.specs.declared.answers.Kind.{Kind}
 use Rattle.wf_frame.specs.declared.classes.Class.{Class}
 use Rattle.wf_frame.specs.declared.notes.Ask.{Ask}
 use Rattle.wf_frame.specs.declared.notes.Ask.TheVariants as ask
@@ -19,7 +20,7 @@ use Rattle.wf_def_lists.specs.Bounds.{greatest_window}
 use Rattle.wf_def_world.specs.World.{World, Exchange, exchange}
 use Rattle.wf_def_world.specs.Exchanges.{picked_station, after_tid_turn, sending_tid, prepared_exchange, exchange_of, Prepared, part_of as world_part_of}
 use Rattle.wf_def_world.specs.Refusals.{refusal, refusals}
-use Rattle.wf_def_world.specs.Step.{Outcome, outcome_of, outcome_where_open, join_outcome, offload_outcome, flush_outcome, done_outcome, pull_outcome, pull_outcome_for, send_outcome, step}
+use Rattle.wf_def_world.specs.Step.{Outcome, outcome_of, outcome_where_open, plain_window, join_outcome, offload_outcome, plain_outcome, flush_outcome, done_outcome, pull_outcome, pull_outcome_for, send_outcome, step}
 use Rattle.wf_law_runs.proofs.Common.Picked.{picked_world}
 use Rattle.wf_law_runs.proofs.Deficits.KeptStep.{no_row}
 use Rattle.wf_recv_marks.specs.declared.marks.Mark.{Mark}
@@ -35,15 +36,16 @@ use Rattle.wf_path.specs.declared.asks.PathAsk.{PathAsk}
 use Rattle.wf_path.specs.declared.asks.PathAsk.TheVariants as path_ask
 use Rattle.wf_path.specs.declared.asks.PathJob.{PathJob}
 use Rattle.wf_path.specs.declared.asks.PathJob.TheVariants as path_job
-use Rattle.wf_path.specs.Jobs.{as_ask, job_of, note_of, MayCall, bodies_after, changes_nothing, frame_given_back}
+use Rattle.wf_path.specs.Jobs.{as_ask, job_of, note_of, MayCall, bodies_after, changes_nothing, frame_given_back, with_released}
 use Rattle.wf_cell_model.specs.Arriving.{IsUntold}
 use Rattle.wf_cell_model.specs.Catching.{peers_caught_up}
 use Rattle.wf_cell_model.specs.Hearing.{Hears, HasAddresses, new_receive_half, with_peer, peer_of}
-use Rattle.wf_cell.specs.Engines.{EngineValue, EngineIsIn, IsJobDone, EngineMeets}
+use Rattle.wf_cell.specs.declared.engine.Newcomer.{Newcomer}
+use Rattle.wf_cell.specs.Engines.{newcomer_of, EngineValue, EngineIsIn, IsJobDone, EngineMeets}
 use Rattle.wf_cell.specs.Cells.{is_received}
 use Rattle.wf_cell_model.proofs.Keeping.{untold_hears, refused_hears}
 use Rattle.wf_cell_model.proofs.Catching.{flushed_hears}
-use Rattle.wf_cell_model.proofs.Joining.{joined_hears, offloaded_hears, offloaded_in_range, station_in_range}
+use Rattle.wf_cell_model.proofs.Joining.{joined_hears, offloaded_hears, plain_hears, offloaded_in_range, plain_in_range, plain_start_in_range, station_in_range, window_in_range, start_in_range}
 use Rattle.wf_cell_model.proofs.Opening.{opened_hears, opened_number, marks_within, marks_below}
 
 -- ---- the path's effect of a job, and the returned frame
@@ -51,9 +53,16 @@ use Rattle.wf_cell_model.proofs.Opening.{opened_hears, opened_number, marks_with
 pub record PathTakes (before : TransmitValue) (job : Job) (after : TransmitValue) (answered : ReplyNote)
     (back : Option FrameValue) : Type 0 where
   pub meets : (w : World) (bodies : ℕ → FrameValue) → StandsFor before w bodies → MayCall w job →
-      PathMeets w (bodies_after before w job answered bodies) (note_of job) after answered
+      PathMeets w (bodies_after before w job answered bodies) (note_of job) after
+      (with_released w job answered)
   pub parcel : (w : World) (bodies : ℕ → FrameValue) → StandsFor before w bodies →
       back ≡ frame_given_back bodies job answered
+
+-- a call that changes no receive half releases nothing
+pub untold_same : (job : Job) (w : World) (answered : ReplyNote) → IsUntold (note_of job) →
+    with_released w job answered ≡ answered
+untold_same (Call (ask.Cease s t)) w answered untold = absurd untold
+untold_same job w answered untold = refl
 
 -- a call that changes no receive half and no mark, in its effect on the path
 pub untold_meets : (v : EngineValue) (after : TransmitValue) (note : Note) (answered : ReplyNote) (w : World)
@@ -80,7 +89,8 @@ untold_done v u same job after answered back path untold may w bodies i =
     of j =
         let m = untold_meets v after (note_of job) answered w bodies
         (bodies_after v.half w job answered bodies) j
-        (path.meets w bodies j.half (may w)) untold in
+        (subst (PathMeets w (bodies_after v.half w job answered bodies) (note_of job) after)
+        (untold_same job w answered untold) (path.meets w bodies j.half (may w))) untold in
         record { is_in = m.is_in; reply = m.reply; back = path.parcel w bodies j.half }
 
 -- a job without a frame that returns no frame, from the effect of its call
@@ -122,7 +132,7 @@ pub record IsFlushed (answered : ReplyNote) : Type 0 where
   pub dropped : ℕ
   pub is : answered ≡ reply.Flushed dropped
 
-done_reply : (w : World) (note : Note) → refusal w note ≡ None →
+pub done_reply : (w : World) (note : Note) → refusal w note ≡ None →
     (step w note).reply ≡ (outcome_of w note).reply
 done_reply w note e = ap (λ (o : Outcome). o.reply) (step_done w note e)
 
@@ -156,7 +166,7 @@ refused_meets v after note answered w bodies others i m r = record {
 
 -- ---- a station joins
 
--- a call after which a station has joined: a Join or an Offload
+-- a call after which a station has joined: a Join, an Offload or a Plain
 pub is_joined : (w : World) (note : Note) → (step w note).reply ≡ reply.Joined → refusal w note ≡ None
 is_joined w note e = not_refused w note
     (λ r other. let two : reply.Joined ≡ reply.Refused r = sym e ∙ other in cc)
@@ -165,17 +175,115 @@ pub not_joined : (w : World) (note : Note) → (refusal w note ≡ None → (ste
     ((step w note).reply ≡ reply.Joined → ⊥) → IsRefused w note
 not_joined w note joins other = refused_else w note (λ e. other (joins e))
 
-pub joined_reply : (w : World) (s window start exponent weight : ℕ) →
-    refusal w (Asked (ask.Join s window start exponent weight)) ≡ None →
-    (step w (Asked (ask.Join s window start exponent weight))).reply ≡ reply.Joined
-unfolding outcome_of join_outcome
-joined_reply w s window start exponent weight e = done_reply w (Asked (ask.Join s window start exponent weight)) e
+-- such a call is one of these three
+record IsNewcomer (P : PathAsk → Newcomer → Type 0) : Type 0 where
+  join : (s window start exponent weight : ℕ) → P (path_ask.Join s window start exponent weight)
+      (record { station = s; start = start; window = window })
+  offload : (s exponent weight : ℕ) → P (path_ask.Offload s exponent weight)
+      (record { station = s; start = 0; window = greatest_window })
+  plain : (s start exponent weight : ℕ) → P (path_ask.Plain s start exponent weight)
+      (record { station = s; start = start; window = plain_window })
 
-pub offloaded_reply : (w : World) (s exponent weight : ℕ) →
-    refusal w (Asked (ask.Offload s exponent weight)) ≡ None →
-    (step w (Asked (ask.Offload s exponent weight))).reply ≡ reply.Joined
-unfolding outcome_of offload_outcome
-offloaded_reply w s exponent weight e = done_reply w (Asked (ask.Offload s exponent weight)) e
+for_newcomer : (P : PathAsk → Newcomer → Type 0) → IsNewcomer P → (ask : PathAsk) (new : Newcomer) →
+    newcomer_of ask ≡ Some new → P ask new
+for_newcomer P each (path_ask.Join s window start exponent weight) new is =
+    let same : record { station = s; start = start; window = window } ≡ new = cc is in
+    subst (P (path_ask.Join s window start exponent weight)) same (each.join s window start exponent weight)
+for_newcomer P each (path_ask.Offload s exponent weight) new is =
+    let same : record { station = s; start = 0; window = greatest_window } ≡ new = cc is in
+    subst (P (path_ask.Offload s exponent weight)) same (each.offload s exponent weight)
+for_newcomer P each (path_ask.Plain s start exponent weight) new is =
+    let same : record { station = s; start = start; window = plain_window } ≡ new = cc is in
+    subst (P (path_ask.Plain s start exponent weight)) same (each.plain s start exponent weight)
+for_newcomer P each ask new is = absurd (cc is)
+
+pub newcomer_may : (ask : PathAsk) (new : Newcomer) → newcomer_of ask ≡ Some new → (w : World) →
+    MayCall w (Call (as_ask ask))
+newcomer_may = for_newcomer (λ ask new. (w : World) → MayCall w (Call (as_ask ask)))
+    (record { join = λ _ _ _ _ _ _. tt; offload = λ _ _ _ _. tt; plain = λ _ _ _ _ _. tt })
+
+pub newcomer_reply : (ask : PathAsk) (new : Newcomer) → newcomer_of ask ≡ Some new → (w : World) →
+    refusal w (Asked (as_ask ask)) ≡ None → (step w (Asked (as_ask ask))).reply ≡ reply.Joined
+unfolding outcome_of join_outcome offload_outcome plain_outcome
+newcomer_reply = for_newcomer (λ ask new. (w : World) → refusal w (Asked (as_ask ask)) ≡ None →
+    (step w (Asked (as_ask ask))).reply ≡ reply.Joined)
+    (record {
+      join = λ s window start exponent weight w.
+          done_reply w (Asked (ask.Join s window start exponent weight));
+      offload = λ s exponent weight w. done_reply w (Asked (ask.Offload s exponent weight));
+      plain = λ s start exponent weight w. done_reply w (Asked (ask.Plain s start exponent weight));
+    })
+
+-- the station's number, the window and the first number are in their ranges
+pub record IsInBounds (w : World) (new : Newcomer) : Type 0 where
+  pub station : new.station < w.config.stations
+  pub window : (1 ≤ new.window) × (new.window ≤ 256)
+  pub start : new.start < 4096
+
+pub newcomer_fits : (ask : PathAsk) (new : Newcomer) → newcomer_of ask ≡ Some new → (w : World) →
+    refusal w (Asked (as_ask ask)) ≡ None → IsInBounds w new
+newcomer_fits = for_newcomer (λ ask new. (w : World) → refusal w (Asked (as_ask ask)) ≡ None →
+    IsInBounds w new)
+    (record {
+      join = λ s window start exponent weight w fine. record {
+        station = station_in_range w s window start exponent weight fine;
+        window = window_in_range w s window start exponent weight fine;
+        start = start_in_range w s window start exponent weight fine;
+      };
+      offload = λ s exponent weight w fine. record {
+        station = offloaded_in_range w s exponent weight fine;
+        window = (omega arith, omega arith);
+        start = omega arith;
+      };
+      plain = λ s start exponent weight w fine. record {
+        station = plain_in_range w s start exponent weight fine;
+        window = (omega arith, omega arith);
+        start = plain_start_in_range w s start exponent weight fine;
+      };
+    })
+
+newcomer_hears : (ask : PathAsk) (new : Newcomer) → newcomer_of ask ≡ Some new → (peers : List PeerValue)
+    (marks : List Mark) (w : World) → IsReached w → Hears peers marks w →
+    refusal w (Asked (as_ask ask)) ≡ None →
+    Hears (with_peer new.station (new_receive_half new.station new.start new.window) peers) marks
+    (step w (Asked (as_ask ask))).world
+newcomer_hears = for_newcomer (λ ask new. (peers : List PeerValue) (marks : List Mark) (w : World) →
+    IsReached w → Hears peers marks w → refusal w (Asked (as_ask ask)) ≡ None →
+    Hears (with_peer new.station (new_receive_half new.station new.start new.window) peers) marks
+    (step w (Asked (as_ask ask))).world)
+    (record {
+      join = λ s window start exponent weight peers marks w.
+          joined_hears peers marks w s window start exponent weight;
+      offload = λ s exponent weight peers marks w. offloaded_hears peers marks w s exponent weight;
+      plain = λ s start exponent weight peers marks w. plain_hears peers marks w s start exponent weight;
+    })
+
+-- a call by which a station joins changes no frame, and releases nothing
+newcomer_takes : (v : TransmitValue) (after : TransmitValue) (answered : ReplyNote) (bodies : ℕ → FrameValue)
+    (ask : PathAsk) (new : Newcomer) → newcomer_of ask ≡ Some new → (w : World) →
+    PathMeets w (bodies_after v w (Call (as_ask ask)) answered bodies) (Asked (as_ask ask)) after
+    (with_released w (Call (as_ask ask)) answered) → PathMeets w bodies (Asked (as_ask ask)) after answered
+newcomer_takes v after answered bodies = for_newcomer (λ ask new. (w : World) →
+    PathMeets w (bodies_after v w (Call (as_ask ask)) answered bodies) (Asked (as_ask ask)) after
+    (with_released w (Call (as_ask ask)) answered) → PathMeets w bodies (Asked (as_ask ask)) after answered)
+    (record { join = λ _ _ _ _ _ _ m. m; offload = λ _ _ _ _ m. m; plain = λ _ _ _ _ _ m. m })
+
+-- a job by which a station joins, from the effect of its call: it returns no frame
+pub newcomer_job : (v u : EngineValue) (answered : ReplyNote) (ask : PathAsk) (new : Newcomer) →
+    newcomer_of ask ≡ Some new → ((w : World) (bodies : ℕ → FrameValue) → EngineIsIn v w bodies →
+    EngineMeets w bodies (Asked (as_ask ask)) u answered) → (w : World) (bodies : ℕ → FrameValue) →
+    EngineIsIn v w bodies → IsJobDone w bodies (Call (as_ask ask)) v.half u answered None
+newcomer_job v u answered = for_newcomer (λ ask new. ((w : World) (bodies : ℕ → FrameValue) →
+    EngineIsIn v w bodies → EngineMeets w bodies (Asked (as_ask ask)) u answered) →
+    (w : World) (bodies : ℕ → FrameValue) → EngineIsIn v w bodies →
+    IsJobDone w bodies (Call (as_ask ask)) v.half u answered None)
+    (record {
+      join = λ s window start exponent weight.
+          ask_done v u (ask.Join s window start exponent weight) answered (λ b. refl);
+      offload = λ s exponent weight. ask_done v u (ask.Offload s exponent weight) answered (λ b. refl);
+      plain = λ s start exponent weight.
+          ask_done v u (ask.Plain s start exponent weight) answered (λ b. refl);
+    })
 
 -- a station that joins has a new receive half, if that is what the machine's receivers are then
 new_half_meets : (v : EngineValue) (after : TransmitValue) (answered : ReplyNote) (w : World)
@@ -203,34 +311,33 @@ new_half_meets v after answered w bodies note s start window i m low hears =
     }
 
 module _ (v : EngineValue) (after : TransmitValue) (answered : ReplyNote) (w : World)
-    (bodies : ℕ → FrameValue) (i : EngineIsIn v w bodies) where
-  pub joined_meets : (s window start exponent weight : ℕ) →
-      PathMeets w bodies (Asked (ask.Join s window start exponent weight)) after answered →
-      refusal w (Asked (ask.Join s window start exponent weight)) ≡ None →
-      EngineMeets w bodies (Asked (ask.Join s window start exponent weight))
-      (record v {
-        half = after;
-        peers = with_peer s
-            (new_peer (peer_of v.peers s).own (peer_of v.peers s).base start window) v.peers;
-      }) answered
-  joined_meets s window start exponent weight m done =
-      new_half_meets v after answered w bodies (Asked (ask.Join s window start exponent weight)) s start window
-      i m (station_in_range w s window start exponent weight done)
-      (joined_hears v.peers v.marks w s window start exponent weight i.half.reached i.hears done)
+    (bodies : ℕ → FrameValue) (i : EngineIsIn v w bodies) (ask : PathAsk) (new : Newcomer)
+    (is : newcomer_of ask ≡ Some new)
+    (m : PathMeets w (bodies_after v.half w (Call (as_ask ask)) answered bodies) (Asked (as_ask ask)) after
+    (with_released w (Call (as_ask ask)) answered)) where
+  pub newcomer_met : PathMeets w bodies (Asked (as_ask ask)) after answered
+  newcomer_met = newcomer_takes v.half after answered bodies ask new is w m
 
-  pub offloaded_meets : (s exponent weight : ℕ) →
-      PathMeets w bodies (Asked (ask.Offload s exponent weight)) after answered →
-      refusal w (Asked (ask.Offload s exponent weight)) ≡ None →
-      EngineMeets w bodies (Asked (ask.Offload s exponent weight))
-      (record v {
-        half = after;
-        peers = with_peer s
-            (new_peer (peer_of v.peers s).own (peer_of v.peers s).base 0 greatest_window) v.peers;
-      }) answered
-  offloaded_meets s exponent weight m done =
-      new_half_meets v after answered w bodies (Asked (ask.Offload s exponent weight)) s 0 greatest_window i m
-      (offloaded_in_range w s exponent weight done)
-      (offloaded_hears v.peers v.marks w s exponent weight i.half.reached i.hears done)
+  pub newcomer_done : answered ≡ reply.Joined → refusal w (Asked (as_ask ask)) ≡ None
+  newcomer_done joined = is_joined w (Asked (as_ask ask)) (sym newcomer_met.reply ∙ joined)
+
+  pub newcomer_meets : answered ≡ reply.Joined → EngineMeets w bodies (Asked (as_ask ask)) (record v {
+    half = after;
+    peers = with_peer new.station
+        (new_peer (peer_of v.peers new.station).own (peer_of v.peers new.station).base new.start new.window)
+        v.peers;
+  }) answered
+  newcomer_meets joined =
+      let done = newcomer_done joined in
+      new_half_meets v after answered w bodies (Asked (as_ask ask)) new.station new.start new.window i
+      newcomer_met (newcomer_fits ask new is w done).station
+      (newcomer_hears ask new is v.peers v.marks w i.half.reached i.hears done)
+
+  pub newcomer_refused : (answered ≡ reply.Joined → ⊥) →
+      EngineMeets w bodies (Asked (as_ask ask)) (record v { half = after }) answered
+  newcomer_refused other = refused_meets v after (Asked (as_ask ask)) answered w bodies bodies i newcomer_met
+      (not_joined w (Asked (as_ask ask)) (newcomer_reply ask new is w)
+      (λ joined. other (newcomer_met.reply ∙ joined)))
 
 -- ---- a flush
 
@@ -245,10 +352,11 @@ module _ (w : World) (s t : ℕ) where
   is_flushed f = not_refused w (Asked (ask.Flush s t))
       (λ r other. let two : reply.Flushed f.dropped ≡ reply.Refused r = sym f.is ∙ other in cc)
 
-  pub not_flushed : (IsFlushed (step w (Asked (ask.Flush s t))).reply → ⊥) → IsRefused w (Asked (ask.Flush s t))
+  pub not_flushed : (IsFlushed (step w (Asked (ask.Flush s t))).reply → ⊥) →
+      IsRefused w (Asked (ask.Flush s t))
   not_flushed other = refused_else w (Asked (ask.Flush s t)) (λ e. other (flushed_reply w s t e))
 
--- the receive half of an offloaded station catches up
+-- the receive half of a TID without an agreement catches up
 pub flushed_meets : (v : EngineValue) (after : TransmitValue) (answered : ReplyNote) (w : World)
     (bodies : ℕ → FrameValue) (s t : ℕ) → EngineIsIn v w bodies →
     PathMeets w bodies (Asked (ask.Flush s t)) after answered → refusal w (Asked (ask.Flush s t)) ≡ None →
@@ -284,7 +392,7 @@ send_is s t c p =
       station = s;
       tid = t;
       charge = x.charge;
-      part = world_part_of x.batch x.content;
+      part = world_part_of x.batch x.plain x.content;
       more = x.more;
       is = refl;
     }
@@ -376,34 +484,39 @@ joined_brief brief.Joined pairs ids e = refl
 joined_brief _ pairs ids e = cc
 
 pub send_brief : (b : Brief) (pairs : List (ℕ × ℕ)) (ids : List ℕ) → IsSend (reply_with b pairs ids) →
-    ((e s t a : ℕ) (r : Option ℕ) (k m : Bool) → b ≡ brief.Send e s t a r k m → ⊥) → ⊥
+    ((e s t a : ℕ) (r : Option ℕ) (k : Kind) (m : Bool) → b ≡ brief.Send e s t a r k m → ⊥) → ⊥
 send_brief (brief.Send e s t a r k m) pairs ids sent other = other e s t a r k m refl
 send_brief _ pairs ids sent other = cc (sent.is)
 
 -- ---- calls of the path that change neither a receive half nor a mark
 
-pub ask_untold : (ask : PathAsk) →
-    ((s window start exponent weight : ℕ) → ask ≡ path_ask.Join s window start exponent weight → ⊥) →
-    ((s exponent weight : ℕ) → ask ≡ path_ask.Offload s exponent weight → ⊥) →
-    ((s t : ℕ) → ask ≡ path_ask.Flush s t → ⊥) → IsUntold (Asked (as_ask ask))
-ask_untold (path_ask.Join s window start exponent weight) no_join no_offload no_flush =
-    no_join s window start exponent weight refl
-ask_untold (path_ask.Offload s exponent weight) no_join no_offload no_flush =
-    no_offload s exponent weight refl
-ask_untold (path_ask.Flush s t) no_join no_offload no_flush = no_flush s t refl
-ask_untold (path_ask.Leave s) no_join no_offload no_flush = tt
-ask_untold (path_ask.Rate s rate) no_join no_offload no_flush = tt
-ask_untold (path_ask.Tick by) no_join no_offload no_flush = tt
-ask_untold (path_ask.Sleep s) no_join no_offload no_flush = tt
-ask_untold (path_ask.Wake s) no_join no_offload no_flush = tt
-ask_untold (path_ask.Poll s) no_join no_offload no_flush = tt
-ask_untold (path_ask.Rx s c air) no_join no_offload no_flush = tt
-ask_untold (path_ask.Ampdu s octets) no_join no_offload no_flush = tt
-ask_untold (path_ask.Stop s) no_join no_offload no_flush = tt
-ask_untold (path_ask.Start s) no_join no_offload no_flush = tt
-ask_untold (path_ask.Unsent e i) no_join no_offload no_flush = tt
-ask_untold (path_ask.GiveUp e i) no_join no_offload no_flush = tt
-ask_untold (path_ask.Weight s weight) no_join no_offload no_flush = tt
+pub ask_untold : (ask : PathAsk) → None ≡ newcomer_of ask → ((s t : ℕ) → ask ≡ path_ask.Flush s t → ⊥) →
+    ((s t window : ℕ) → ask ≡ path_ask.Begin s t window → ⊥) →
+    ((s t : ℕ) → ask ≡ path_ask.Cease s t → ⊥) → IsUntold (Asked (as_ask ask))
+ask_untold (path_ask.Join s window start exponent weight) no_newcomer no_flush no_begin no_cease =
+    absurd (cc no_newcomer)
+ask_untold (path_ask.Offload s exponent weight) no_newcomer no_flush no_begin no_cease =
+    absurd (cc no_newcomer)
+ask_untold (path_ask.Plain s start exponent weight) no_newcomer no_flush no_begin no_cease =
+    absurd (cc no_newcomer)
+ask_untold (path_ask.Flush s t) no_newcomer no_flush no_begin no_cease = no_flush s t refl
+ask_untold (path_ask.Begin s t window) no_newcomer no_flush no_begin no_cease = no_begin s t window refl
+ask_untold (path_ask.Cease s t) no_newcomer no_flush no_begin no_cease = no_cease s t refl
+ask_untold (path_ask.Leave s) no_newcomer no_flush no_begin no_cease = tt
+ask_untold (path_ask.Rate s rate) no_newcomer no_flush no_begin no_cease = tt
+ask_untold (path_ask.Tick by) no_newcomer no_flush no_begin no_cease = tt
+ask_untold (path_ask.Sleep s) no_newcomer no_flush no_begin no_cease = tt
+ask_untold (path_ask.Wake s) no_newcomer no_flush no_begin no_cease = tt
+ask_untold (path_ask.Poll s) no_newcomer no_flush no_begin no_cease = tt
+ask_untold (path_ask.Rx s c air) no_newcomer no_flush no_begin no_cease = tt
+ask_untold (path_ask.Ampdu s octets) no_newcomer no_flush no_begin no_cease = tt
+ask_untold (path_ask.Stop s) no_newcomer no_flush no_begin no_cease = tt
+ask_untold (path_ask.Start s) no_newcomer no_flush no_begin no_cease = tt
+ask_untold (path_ask.Unsent e i) no_newcomer no_flush no_begin no_cease = tt
+ask_untold (path_ask.GiveUp e i) no_newcomer no_flush no_begin no_cease = tt
+ask_untold (path_ask.Weight s weight) no_newcomer no_flush no_begin no_cease = tt
+ask_untold (path_ask.Hold s t) no_newcomer no_flush no_begin no_cease = tt
+ask_untold (path_ask.Free s t) no_newcomer no_flush no_begin no_cease = tt
 
 -- such a call may be made in any world, except an Unsent
 pub ask_may : (ask : PathAsk) → ((e i : ℕ) → ask ≡ path_ask.Unsent e i → ⊥) → (w : World) →
@@ -424,6 +537,11 @@ ask_may (path_ask.GiveUp e i) other w = tt
 ask_may (path_ask.Flush s t) other w = tt
 ask_may (path_ask.Offload s exponent weight) other w = tt
 ask_may (path_ask.Weight s weight) other w = tt
+ask_may (path_ask.Plain s start exponent weight) other w = tt
+ask_may (path_ask.Hold s t) other w = tt
+ask_may (path_ask.Begin s t window) other w = tt
+ask_may (path_ask.Free s t) other w = tt
+ask_may (path_ask.Cease s t) other w = tt
 
 pub job_may : (job : PathJob) → ((ask : PathAsk) → job ≡ path_job.Call ask → ⊥) → (w : World) →
     MayCall w (job_of job)
@@ -459,6 +577,11 @@ not_received (path_job.Call (path_ask.GiveUp e i)) = refl
 not_received (path_job.Call (path_ask.Flush s t)) = refl
 not_received (path_job.Call (path_ask.Offload s exponent weight)) = refl
 not_received (path_job.Call (path_ask.Weight s weight)) = refl
+not_received (path_job.Call (path_ask.Plain s start exponent weight)) = refl
+not_received (path_job.Call (path_ask.Hold s t)) = refl
+not_received (path_job.Call (path_ask.Begin s t window)) = refl
+not_received (path_job.Call (path_ask.Free s t)) = refl
+not_received (path_job.Call (path_ask.Cease s t)) = refl
 
 -- for a call of the path alone, the reply says whether the path is unchanged
 pub path_kept_by : (job : PathJob) (answered : ReplyNote) →

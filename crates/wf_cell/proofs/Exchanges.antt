@@ -1,22 +1,23 @@
 -- Proves the effect of an Arrive, an Unsent, an Answer and a Done on an engine, from its marks and from what
 -- its path sends.
-use Rattle.std.proofs.Common.{◌≡◌, refl, ap, sym, ◌∙◌, subst, ℕ, ◌<◌, ◌≤◌, Bool, true, false, List, [], Option, Some, None, IfSome, length, arith}
+use Rattle.std.proofs.Common.{◌≡◌, refl, ap, sym, ◌∙◌, subst, ℕ, ◌<◌, ◌≤◌, Bool, true, false, List, [], Option, Some, None, IfSome, if◌then◌else◌, length, arith}
 use Rattle.std.specs.Prelude.{◌==◌, find, IfNone, not, filter, option_map, is_none, nat_le, nat_lt, ◌&&◌, if◌then◌else◌}
 use Rattle.std.specs.Option.{option_or}
 use Rattle.std.proofs.lemmas.Bool.{leb-false}
 use Rattle.wf_frame.specs.Frames.{FrameValue}
 use Rattle.wf_frame.specs.Answers.{reply_with}
 use Rattle.wf_frame.specs.declared.answers.Brief.{Brief}
+use Rattle.wf_frame.specs.declared.answers.Brief.TheVariants as brief
 use Rattle.wf_frame.specs.declared.notes.Ask.TheVariants.{Arrive, Answer, Done, Unsent}
 use Rattle.wf_frame.specs.declared.notes.Note.{Note}
 use Rattle.wf_frame.specs.declared.notes.Note.TheVariants.{Asked}
 use Rattle.wf_frame.specs.declared.notes.Refusal.{Refusal}
 use Rattle.wf_frame.specs.declared.notes.Refusal.TheVariants.{NoExchange, NoAnswer, BadAir, BadIndex, Marked, Idle}
 use Rattle.wf_frame.specs.declared.notes.ReplyNote.{ReplyNote}
-use Rattle.wf_frame.specs.declared.notes.ReplyNote.TheVariants.{Refused, Released, Ba}
+use Rattle.wf_frame.specs.declared.notes.ReplyNote.TheVariants.{Refused, Released, Ack, Ba}
 use Rattle.wf_def_agreement.specs.Receiver.{Score}
 use Rattle.wf_def_lists.specs.Table.{bits_word, has}
-use Rattle.wf_def_world.specs.World.{World, Exchange, Content, Frames, Request, exchange}
+use Rattle.wf_def_world.specs.World.{World, Exchange, Content, Frames, Request, exchange, is_live, is_agreed}
 use Rattle.wf_def_world.specs.Exchanges.{transmissions, mpdus_of}
 use Rattle.wf_def_world.specs.Refusals.{refusal, refusals, exchange_has}
 use Rattle.wf_frame.specs.Settings.{is_bad_air}
@@ -41,15 +42,15 @@ use Rattle.wf_send_half_model.proofs.Whole.{arrive_stands, answer_stands}
 use Rattle.wf_law_driver.proofs.Opened.{found_number}
 use Rattle.wf_path.specs.declared.reading.Sent.{Sent}
 use Rattle.wf_path.specs.Heard.{shown_at}
-use Rattle.wf_path.specs.Transmissions.{sent_of}
-use Rattle.wf_cell_model.specs.Arriving.{CarriesId, peer_after, buffer_outcome_of_transmission}
+use Rattle.wf_path.specs.Transmissions.{sent_of, start_on_air, start_announced}
+use Rattle.wf_cell_model.specs.Arriving.{CarriesId, peer_after, peer_requested, buffer_outcome_of_transmission}
 use Rattle.wf_cell_model.specs.Answers.{KeepsShown}
-use Rattle.wf_cell_model.specs.Catching.{peers_caught_up}
+use Rattle.wf_cell_model.specs.Catching.{twelve_bit_start, peers_caught_up}
 use Rattle.wf_cell_model.specs.Hearing.{with_peer, peer_of, agreement_of, mark_of, Hears}
 use Rattle.wf_cell_model.specs.Refusing.{mark_in, told_refusal, answer_refusal, done_refusal}
 use Rattle.wf_cell.specs.Engines.{EngineValue, EngineIsIn, EngineMeets, IsToldBy, heard_by}
 use Rattle.wf_cell_model.proofs.Keeping.{refused_hears}
-use Rattle.wf_cell_model.proofs.Catching.{ended_hears}
+use Rattle.wf_cell_model.proofs.Catching.{ended_live, ended_hears}
 use Rattle.wf_cell_model.proofs.Sent.{open_now, station_now, tid_now}
 use Rattle.wf_cell_model.proofs.Arriving.{arrived_hears, arrived_up}
 use Rattle.wf_cell_model.proofs.Answering.{answered_hears, answer_reply}
@@ -216,6 +217,30 @@ told_tid w e sent r told =
       ap (λ (s : Sent). s.tid) (told_is w e sent o.sending told o.known),
     )
 
+-- the station of an exchange that ended is live
+pub told_live : (w : World) (e : ℕ) (heard : Bool) (air : Option ℕ) → IsReached w → (sent : Sent) →
+    option_map sent_of (exchange w e) ≡ Some sent → refusal w (Asked (Done e heard air)) ≡ None →
+    is_live (step w (Asked (Done e heard air))).world sent.station ≡ true
+told_live w e heard air r sent told done =
+    let o = told_open w e sent told in
+    ap (λ (s : Sent). is_live (step w (Asked (Done e heard air))).world s.station)
+    (told_is w e sent o.sending told o.known)
+    ∙ ended_live w e heard air o.sending r o.known done
+
+-- ---- the start that a path announces
+
+-- If the path announces none for a live station, the TID has an agreement, and no receive half moves.
+pub unannounced_peers : (w : World) (s t : ℕ) (peers : List PeerValue) → None ≡ start_announced w s t →
+    is_live w s ≡ true → peers ≡ peers_caught_up w s t peers
+unannounced_peers w s t peers none live = of (is_live w s) (is_agreed w s t) none live
+  where
+    of : (there agreed : Bool) → None ≡ (if there && not agreed then Some (start_on_air w s t) else None) →
+        there ≡ true → peers ≡ (if agreed then peers
+        else with_peer s (peer_requested t (twelve_bit_start w s t) (peer_of peers s)) peers)
+    of true true e is = refl
+    of true false e is = absurd (cc e)
+    of false agreed e is = absurd (cc is)
+
 -- the index of a transmission that may arrive is below the number of transmissions
 pub arrives_within : (w : World) (e k : ℕ) (x : Exchange) → exchange w e ≡ Some x →
     refusal w (Asked (Arrive e k)) ≡ None → k < transmissions x.content
@@ -251,6 +276,12 @@ arrived_meets v w bodies e k id x i known done carries = record {
 
 -- ---- Answer
 
+-- the reply of an answer that is an Ack or this BlockAck
+pub ack_or_reply : (plain : Bool) (ba : Brief) (pairs : List (ℕ × ℕ)) (ids : List ℕ) →
+    reply_with (if plain then brief.Ack else ba) pairs ids ≡ (if plain then Ack else reply_with ba pairs ids)
+ack_or_reply true ba pairs ids = refl
+ack_or_reply false ba pairs ids = refl
+
 module _ (v : EngineValue) (w : World) (bodies : ℕ → FrameValue) (e : ℕ) (i : EngineIsIn v w bodies) where
   pub answer_not_open : exchange w e ≡ None → Some NoExchange ≡ refusal w (Asked (Answer e))
   answer_not_open none = sym (answer_inferred v.peers v.marks w e i.hears
@@ -273,15 +304,18 @@ module _ (v : EngineValue) (w : World) (bodies : ℕ → FrameValue) (e : ℕ) (
       let b : Board = (agreement_of v.peers sent.station sent.tid).board in
       EngineMeets w bodies (Asked (Answer e)) (record
       v { marks = with_changed e (with_answer b.start b.offsets) v.marks })
-      (Ba b.start (bits_word 0 b.offsets) (bits_word 1 b.offsets) (bits_word 2 b.offsets)
+      (if exchange_has (exchange w e) (λ x. x.plain) then Ack else
+      Ba b.start (bits_word 0 b.offsets) (bits_word 1 b.offsets) (bits_word 2 b.offsets)
       (bits_word 3 b.offsets) (nat_lt 64 b.size))
   answered_meets sent told done =
       let o = told_open w e sent told in
+      let board_of_sending : Board = (agreement_of v.peers o.sending.station o.sending.tid).board in
       subst (λ (s : Sent).
       let b : Board = (agreement_of v.peers s.station s.tid).board in
       EngineMeets w bodies (Asked (Answer e)) (record
       v { marks = with_changed e (with_answer b.start b.offsets) v.marks })
-      (Ba b.start (bits_word 0 b.offsets) (bits_word 1 b.offsets) (bits_word 2 b.offsets)
+      (if exchange_has (exchange w e) (λ x. x.plain) then Ack else
+      Ba b.start (bits_word 0 b.offsets) (bits_word 1 b.offsets) (bits_word 2 b.offsets)
       (bits_word 3 b.offsets) (nat_lt 64 b.size))) (sym (told_is w e sent o.sending told o.known))
       (record {
         is_in = record {
@@ -289,7 +323,11 @@ module _ (v : EngineValue) (w : World) (bodies : ℕ → FrameValue) (e : ℕ) (
           hears =
               answered_hears v.peers v.marks w e o.sending i.half.reached i.hears o.known done;
         };
-        reply = sym (answer_reply v.peers v.marks w e o.sending i.half.reached i.hears o.known done);
+        reply = ap (λ (f : Option Exchange). let b : Board = board_of_sending in
+            if exchange_has f (λ x. x.plain) then Ack else
+            Ba b.start (bits_word 0 b.offsets) (bits_word 1 b.offsets) (bits_word 2 b.offsets)
+            (bits_word 3 b.offsets) (nat_lt 64 b.size)) o.known
+            ∙ sym (answer_reply v.peers v.marks w e o.sending i.half.reached i.hears o.known done);
       })
 
 -- ---- Done
@@ -439,7 +477,8 @@ module _ (v : EngineValue) (w : World) (bodies : ℕ → FrameValue) (e : ℕ) (
       refusal w (Asked (Done e heard air)) ≡ None → PathEnds v.half e kept air after b →
       PathMeets w bodies (Asked (Done e heard air)) after (reply_with b pairs ids)
   end_met heard kept is done ends = on_bool (is_batch (exchange w e))
-      (λ batched. end_batched heard batched (subst (λ (k : Option (ℕ × List ℕ)). PathEnds v.half e k air after b)
+      (λ batched. end_batched heard batched
+      (subst (λ (k : Option (ℕ × List ℕ)). PathEnds v.half e k air after b)
       (is ∙ ap (λ (c : Bool). heard_by v.half m c heard) batched) ends))
       (λ plain. end_unbatched heard plain done
       (subst (λ (k : Option (ℕ × List ℕ)). PathEnds v.half e k air after b)

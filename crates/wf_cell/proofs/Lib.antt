@@ -3,6 +3,7 @@ pub mod Runs
 mod Hearing
 mod Inside
 mod Calls
+mod Renewals
 mod Batches
 pub mod Exchanges
 pub mod Written

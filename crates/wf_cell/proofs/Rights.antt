@@ -80,6 +80,11 @@ module _ (v : TransmitValue) (w : World) (bodies : ℕ → FrameValue) (stands :
   back_is (Give f) reply.Started e = refl
   back_is (Give f) reply.Marked e = refl
   back_is (Give f) (reply.Flushed dropped) e = refl
+  back_is (Give f) reply.Ack e = refl
+  back_is (Give f) (reply.Held start) e = refl
+  back_is (Give f) reply.Begun e = refl
+  back_is (Give f) reply.Freed e = refl
+  back_is (Give f) (reply.Ceased dropped released) e = refl
   back_is (Give f) (reply.Polled class) e = refl
   back_is (Give f) (reply.Charged deficit) e = refl
   back_is (Give f) (reply.Reaped id fate) e = refl
@@ -99,6 +104,11 @@ module _ (v : TransmitValue) (w : World) (bodies : ℕ → FrameValue) (stands :
   back_is (Call ask.Reap) reply.Started e = refl
   back_is (Call ask.Reap) reply.Marked e = refl
   back_is (Call ask.Reap) (reply.Flushed dropped) e = refl
+  back_is (Call ask.Reap) reply.Ack e = refl
+  back_is (Call ask.Reap) (reply.Held start) e = refl
+  back_is (Call ask.Reap) reply.Begun e = refl
+  back_is (Call ask.Reap) reply.Freed e = refl
+  back_is (Call ask.Reap) (reply.Ceased dropped released) e = refl
   back_is (Call ask.Reap) (reply.Polled class) e = refl
   back_is (Call ask.Reap) (reply.Charged deficit) e = refl
   back_is (Call ask.Reap) (reply.Reaped id fate) e = reaped_back id fate e
@@ -123,6 +133,11 @@ module _ (v : TransmitValue) (w : World) (bodies : ℕ → FrameValue) (stands :
   back_is (Call (ask.Flush s t)) answered e = refl
   back_is (Call (ask.Offload s exponent weight)) answered e = refl
   back_is (Call (ask.Weight s weight)) answered e = refl
+  back_is (Call (ask.Plain s start exponent weight)) answered e = refl
+  back_is (Call (ask.Hold s t)) answered e = refl
+  back_is (Call (ask.Begin s t window)) answered e = refl
+  back_is (Call (ask.Free s t)) answered e = refl
+  back_is (Call (ask.Cease s t)) answered e = refl
 
 -- an answer is right if its reply is the run's and the returned frame is the path's
 pub is_right : (v : TransmitValue) (p : Past) (bodies : ℕ → FrameValue) (job : Job) (answered : ReplyNote)

@@ -1,6 +1,6 @@
 -- Proves that the octets of a transmission have the fields of its frame or request (`IsSentTo`), and that
 -- they fit in the buffer.
-use Rattle.std.proofs.Common.{◌≡◌, refl, ap, sym, ◌∙◌, subst, ℕ, zero, suc, ◌+◌, ◌*◌, ◌%◌, ◌<◌, ◌≤◌, true, lit≤, List, [], ◌∷◌, length, Option, Some, None, length-append, arith}
+use Rattle.std.proofs.Common.{◌≡◌, refl, ap, sym, ◌∙◌, subst, ℕ, zero, suc, ◌+◌, ◌*◌, ◌%◌, ◌<◌, ◌≤◌, Bool, true, false, lit≤, List, [], ◌∷◌, length, Option, Some, None, length-append, arith}
 use Rattle.std.specs.Prelude.{slice_get, option_map, option_and_then, if◌then◌else◌, Result, Ok, Err}
 use Rattle.std.proofs.lemmas.Bool.{le-ltb}
 use Rattle.std.specs.Result.{is_err}
@@ -29,7 +29,7 @@ use Rattle.wf_send_half.proofs.Ends.{IsData, sends as data_sent, begun}
 use Rattle.wf_path.specs.declared.faults.PathFault.{PathFault}
 use Rattle.wf_path.specs.declared.faults.PathFault.TheVariants.{SmallBuffer}
 use Rattle.wf_path.specs.Addresses.{made_up}
-use Rattle.wf_path.specs.Transmissions.{header_of, data_octets, bar_of, bar_octets, transmission_octets, octets_sent}
+use Rattle.wf_path.specs.Transmissions.{duration, header_of, data_octets, bar_of, bar_octets, transmission_octets, octets_sent}
 use Rattle.std.specs.Result.{result_err}
 use Rattle.wf_path.specs.Writing.{room_fault, write_fault}
 use Rattle.wf_path.proofs.MadeUp.{plain, sent_plain, write_fault_plain}
@@ -52,6 +52,11 @@ header_long w bodies x m source =
     qos_long (first_octet h.kind) (flags_octet h) h.duration h.a1 h.a2 h.a3 (16 * h.seq) h.tid refl refl
     source
 
+-- the Duration fits its two octets
+duration_read : (plain : Bool) → number_at (two_octets (duration plain)) 0 ≡ duration plain
+duration_read true = refl
+duration_read false = refl
+
 data_says : (w : World) (bodies : ℕ → FrameValue) (x : Exchange) (m : Mpdu) → x.tid < 8 →
     HasSource bodies m → SaysData x.station x.tid (m.number % 4096) (data_octets plain w bodies x m)
 data_says w bodies x m low source = record {
@@ -59,7 +64,7 @@ data_says w bodies x m low source = record {
   is_for = record {
     layout =
         qos_begins (data_octets plain w bodies x m) (header_of plain w bodies x m) refl refl
-        (record { not_both = refl; tid = omega (arith, low) }) refl
+        (record { not_both = refl; tid = omega (arith, low) }) (duration_read x.plain)
         (two_read (16 * (m.number % 4096)) (omega arith)) refl refl source
         (take_at (header_as_octets (header_of plain w bodies x m)) (bodies m.id).body 26
         (header_long w bodies x m source));

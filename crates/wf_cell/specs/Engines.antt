@@ -9,7 +9,8 @@ use Rattle.wf_frame.specs.declared.notes.Ask.TheVariants.{Arrive, Unsent}
 use Rattle.wf_def_world.specs.World.{World, Exchange, exchange}
 use Rattle.wf_def_world.specs.Exchanges.{transmissions}
 use Rattle.wf_def_world.specs.Refusals.{exchange_has, refusal}
-use Rattle.wf_def_world.specs.Step.{step}
+use Rattle.wf_def_world.specs.Step.{plain_window, step}
+use Rattle.wf_def_lists.specs.Bounds.{greatest_window}
 use Rattle.wf_def_lists.specs.Table.{has}
 use Rattle.wf_frame.specs.declared.notes.Refusal.{Refusal}
 use Rattle.wf_frame.specs.declared.notes.Refusal.TheVariants.{Marked}
@@ -19,11 +20,24 @@ use Rattle.wf_recv_peer.specs.Agreements.{PeerValue}
 use Rattle.wf_send_half_model.specs.Half.{TransmitValue}
 use Rattle.wf_send_half_model.specs.Standing.{StandsFor}
 use Rattle.wf_cell_model.specs.Hearing.{Hears}
+use Rattle.wf_cell.specs.declared.engine.Newcomer.{Newcomer}
 use Rattle.wf_path.specs.declared.job.Job.{Job}
+use Rattle.wf_path.specs.declared.asks.PathAsk.{PathAsk}
+use Rattle.wf_path.specs.declared.asks.PathAsk.TheVariants.{Join, Offload, Plain}
 use Rattle.wf_path.specs.declared.reading.Sent.{Sent}
 use Rattle.wf_path.specs.Heard.{shown_at}
 use Rattle.wf_path.specs.Transmissions.{sent_of}
 use Rattle.wf_path.specs.Jobs.{note_of, bodies_after, frame_given_back}
+
+-- the station that joins by a call of the path, with the first number and the window of each of its TIDs;
+-- none if no station joins by it
+abbrev pub newcomer_of : PathAsk → Option Newcomer
+newcomer_of (Join s window start exponent weight) =
+    Some (record { station = s; start = start; window = window })
+newcomer_of (Offload s exponent weight) = Some (record { station = s; start = 0; window = greatest_window })
+newcomer_of (Plain s start exponent weight) =
+    Some (record { station = s; start = start; window = plain_window })
+newcomer_of ask = None
 
 -- an engine
 pub record EngineValue : Type 0 where

@@ -3,14 +3,14 @@
 ghost use Rattle.std.specs.Prelude.{◌≡◌, ◌<◌, ◌≤◌, ◌==◌, nat_lt, ℕ, true, Some, None, [], length, position, take, option_map, IfOk, IfSome, if◌then◌else◌};
 ghost use Rattle.wf_frame.specs.Frames.{FrameValue};
 ghost use Rattle.wf_frame.specs.Answers.{reply_of};
-ghost use Rattle.wf_frame.specs.declared.answers.Brief.TheVariants.{Ba};
+ghost use Rattle.wf_frame.specs.declared.answers.Brief.TheVariants.{Ack, Ba};
 ghost use Rattle.wf_frame.specs.declared.notes.Ask.TheVariants.{Arrive, Answer as Answers, Done, Unsent};
 ghost use Rattle.wf_frame.specs.declared.notes.Note.TheVariants.{Asked};
 ghost use Rattle.wf_frame.specs.declared.notes.ReplyNote.TheVariants.{Released};
 ghost use Rattle.wf_def_lists.specs.Table.{bits_word};
 ghost use Rattle.wf_def_world.specs.Refusals.{refusal};
 ghost use Rattle.wf_def_world.specs.Exchanges.{transmissions};
-ghost use Rattle.wf_def_world.specs.World.{World, Exchange, exchange as exchange_in};
+ghost use Rattle.wf_def_world.specs.World.{World, Exchange, exchange as exchange_in, is_live};
 ghost use Rattle.std.specs.Result.{result_err};
 ghost use Rattle.wf_send_half_model.specs.Standing.{StandsFor};
 ghost use Rattle.wf_recv_marks.specs.Marks.{with_answer, with_changed};
@@ -93,6 +93,13 @@ struct Found {
     heard: Option<(Seq12, Bits256)>,
     // What the exchange sends.
     sent: Sent,
+}
+
+// Returns the answer to an exchange: an Ack if it is plain, else this BlockAck.
+fn ack_or(plain: bool, ba: Brief) -> Brief
+    ensures { result ≡ (if plain then Ack else ba) }
+{
+    if plain { Brief::Ack } else { ba }
 }
 
 // Writes a transmission of an open exchange, and returns its length in octets.
@@ -215,7 +222,8 @@ impl Engine {
         self.marks.arrive(exchange, index);
     }
 
-    // A station answers an open exchange with a BlockAck, or is refused.
+    // A station answers an open exchange with a BlockAck, or with an Ack if the exchange is plain, or is
+    // refused.
     pub(crate) fn answer(&mut self, exchange: u64, answer: &mut Answer)
         requires { EngineHasWorld self.old }
         ensures meets { (w : World) (bodies : ℕ → FrameValue) → EngineIsIn self.old w bodies →
@@ -224,7 +232,11 @@ impl Engine {
     {
         match self.check_answer(exchange) {
             Err(reason) => answer.brief = Brief::Refused(reason),
-            Ok(sent) => answer.brief = self.keep_answer(sent, exchange),
+            Ok(sent) => {
+                let plain = self.path.is_plain(exchange);
+                let ba = self.keep_answer(sent, exchange);
+                answer.brief = ack_or(plain, ba);
+            }
         }
     }
 
@@ -249,7 +261,8 @@ impl Engine {
         }
     }
 
-    // Keeps a station's BlockAck in the mark, and returns it as the answer.
+    // Keeps a station's BlockAck in the mark, and returns it as an answer. The mark of a plain exchange keeps
+    // what its Ack shows in the same form.
     fn keep_answer(&mut self, sent: Sent, exchange: u64) -> Brief
         requires within { sent.station < length self.old.peers }
         requires tid { sent.tid < 8 }
@@ -294,17 +307,18 @@ impl Engine {
         }
     }
 
-    // The device of an offloaded station tells its peer by itself where the window of a TID starts, and the
-    // receive half moves there. `up` is for the frames that it passes up, which no answer shows.
+    // The receive half moves to the start of the window of a TID without an agreement: the device of an
+    // offloaded station announces the start of the window to its peer, and a receiver of single frames takes
+    // each of them. `up` is for the frames that it passes up, which no answer shows.
     pub(crate) fn catch_up(&mut self, station: u16, tid: u8, up: &mut Ids)
         requires tid { tid < 8 }
         requires within { station < length self.old.peers }
         ensures path_kept { self.new.half ≡ self.old.half }
         ensures marks_kept { self.new.marks ≡ self.old.marks }
         ensures peers { (w : World) (bodies : ℕ → FrameValue) → StandsFor self.old.half w bodies →
-            self.new.peers ≡ peers_caught_up w station tid self.old.peers }
+            is_live w station ≡ true → self.new.peers ≡ peers_caught_up w station tid self.old.peers }
     {
-        if let Some(start) = self.path.start_told(station, tid) {
+        if let Some(start) = self.path.start_announced(station, tid) {
             up.clear();
             self.peers.move_to(station, tid, start, up);
         }

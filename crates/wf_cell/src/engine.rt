@@ -1,18 +1,19 @@
 //! The engine: a cell without its history.
 
-ghost use Rattle.std.specs.Prelude.{◌≡◌, ◌||◌, ℕ, true, None, IfOk};
+ghost use Rattle.std.specs.Prelude.{◌≡◌, ◌||◌, ℕ, true, Some, None, IfOk};
 ghost use Rattle.wf_frame.specs.Frames.{FrameValue};
 ghost use Rattle.wf_frame.specs.Answers.{reply_of};
 ghost use Rattle.wf_frame.specs.Settings.{first_out_of_range};
-ghost use Rattle.wf_frame.specs.declared.notes.Ask.TheVariants.{Join, Offload, Flush, Pull};
+ghost use Rattle.wf_frame.specs.declared.notes.Ask.TheVariants.{Flush, Pull};
 ghost use Rattle.wf_frame.specs.declared.notes.Note.TheVariants.{Asked};
 ghost use Rattle.wf_def_world.specs.World.{World, opening};
 ghost use Rattle.wf_send_half.specs.Replies.{bodies_sent};
 ghost use Rattle.wf_path.specs.Jobs.{ask_about, as_ask, job_of, changes_nothing};
 ghost use Rattle.wf_path.specs.Paths.{IsSmall};
-ghost use Rattle.wf_cell.specs.Engines.{EngineHasWorld, IsJobDone, EngineIsIn, EngineMeets};
+ghost use Rattle.wf_cell.specs.Engines.{newcomer_of, EngineHasWorld, IsJobDone, EngineIsIn, EngineMeets};
 ghost use Rattle.wf_cell.specs.Cells.{is_received};
 
+use crate::agreements::PLAIN_WINDOW;
 use crate::peers::Peers;
 use std::alloc::{AllocError, Global};
 use std::marker::Model;
@@ -45,6 +46,44 @@ impl Model for Engine {
     ghost view = { λ e. record { half = e.path.half; peers = e.peers; marks = e.marks } };
 
     ghost invariant = { λ e. e.path.addresses ≡ made_up };
+}
+
+/// A station that joins, with the first number and the window of each of its TIDs.
+#[derive(Clone, Copy)]
+struct Newcomer {
+    station: u16,
+    start: u16,
+    window: u16,
+}
+
+// Returns the station that joins by a call of the path, if one does. The device of an offloaded station
+// numbers its frames, and a TID without an agreement has a window of one number.
+fn newcomer_of(ask: &PathAsk) -> Option<Newcomer>
+    ensures { result ≡ newcomer_of ask.now }
+{
+    match *ask {
+        PathAsk::Join {
+            station,
+            window,
+            start,
+            ..
+        } => Some(Newcomer {
+            station,
+            start,
+            window,
+        }),
+        PathAsk::Offload { station, .. } => Some(Newcomer {
+            station,
+            start: 0,
+            window: GREATEST_WINDOW,
+        }),
+        PathAsk::Plain { station, start, .. } => Some(Newcomer {
+            station,
+            start,
+            window: PLAIN_WINDOW,
+        }),
+        _ => None,
+    }
 }
 
 impl Engine {
@@ -131,33 +170,33 @@ impl Engine {
             self.new.half ≡ self.old.half }
     {
         match ask {
-            PathAsk::Join {
-                station,
-                window,
-                start,
-                exponent,
-                weight,
-            } => {
-                self.join(station, window, start, exponent, weight, answer);
-                None
-            }
             PathAsk::Unsent { exchange, index } => {
                 self.unsent(exchange, index, answer);
-                None
-            }
-            PathAsk::Offload {
-                station,
-                exponent,
-                weight,
-            } => {
-                self.offload(station, exponent, weight, answer);
                 None
             }
             PathAsk::Flush { station, tid } => {
                 self.flush(station, tid, answer);
                 None
             }
-            _ => self.path.call(PathJob::Call(ask), answer),
+            PathAsk::Begin {
+                station,
+                tid,
+                window,
+            } => {
+                self.begin(station, tid, window, answer);
+                None
+            }
+            PathAsk::Cease { station, tid } => {
+                self.cease(station, tid, answer);
+                None
+            }
+            _ => match newcomer_of(&ask) {
+                Some(newcomer) => {
+                    self.join(ask, newcomer, answer);
+                    None
+                }
+                None => self.path.call(PathJob::Call(ask), answer),
+            },
         }
     }
 
@@ -184,62 +223,27 @@ impl Engine {
     }
 
     // Makes a station join, with a new receive half.
-    fn join(
-        &mut self,
-        station: u16,
-        window: u16,
-        start: u16,
-        exponent: u8,
-        weight: u8,
-        answer: &mut Answer,
-    )
+    fn join(&mut self, ask: PathAsk, newcomer: Newcomer, answer: &mut Answer)
         requires some { EngineHasWorld self.old }
         requires small { IsSmall self.old.half }
+        requires joins { newcomer_of ask ≡ Some newcomer }
         ensures meets { (w : World) (bodies : ℕ → FrameValue) → EngineIsIn self.old w bodies →
-            EngineMeets w bodies (Asked (Join station window start exponent weight)) self.new
-            (reply_of answer.new) }
+            EngineMeets w bodies (Asked (as_ask ask)) self.new (reply_of answer.new) }
         ensures path_kept { changes_nothing (reply_of answer.new) ≡ true →
             self.new.half ≡ self.old.half }
     {
-        let ask = PathAsk::Join {
-            station,
-            window,
-            start,
-            exponent,
-            weight,
-        };
         let _ = self.path.call(PathJob::Call(ask), answer);
         match answer.brief {
-            Brief::Joined => self
-                .peers
-                .reset(station, Seq12::of(u64::from(start)), window),
+            Brief::Joined => {
+                let start = Seq12::of(u64::from(newcomer.start));
+                self.peers.reset(newcomer.station, start, newcomer.window);
+            }
             _ => {}
         }
     }
 
-    // Makes a station join whose device numbers its frames, with a new receive half.
-    fn offload(&mut self, station: u16, exponent: u8, weight: u8, answer: &mut Answer)
-        requires some { EngineHasWorld self.old }
-        requires small { IsSmall self.old.half }
-        ensures meets { (w : World) (bodies : ℕ → FrameValue) → EngineIsIn self.old w bodies →
-            EngineMeets w bodies (Asked (Offload station exponent weight)) self.new (reply_of answer.new) }
-        ensures path_kept { changes_nothing (reply_of answer.new) ≡ true →
-            self.new.half ≡ self.old.half }
-    {
-        let ask = PathAsk::Offload {
-            station,
-            exponent,
-            weight,
-        };
-        let _ = self.path.call(PathJob::Call(ask), answer);
-        match answer.brief {
-            Brief::Joined => self.peers.reset(station, Seq12::of(0), GREATEST_WINDOW),
-            _ => {}
-        }
-    }
-
-    // Drops the frames of a TID that are not on the air. The receive half of an offloaded station moves to
-    // the start of the window.
+    // Drops the frames of a TID that are not on the air. If the TID has no agreement, the receive half moves
+    // to the start of the window.
     fn flush(&mut self, station: u16, tid: u8, answer: &mut Answer)
         requires some { EngineHasWorld self.old }
         requires small { IsSmall self.old.half }

@@ -13,6 +13,7 @@
 //! The module `record` has a cell with the entries of its history in memory.
 #![tactic(auto)]
 
+mod agreements;
 mod air;
 mod cell;
 mod crossing;

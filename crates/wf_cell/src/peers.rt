@@ -1,7 +1,8 @@
 //! The receive halves of all stations.
 
 ghost use Rattle.std.specs.Prelude.{◌≡◌, ℕ, ◌<◌, ◌≤◌, [], length, nat_lt, IfOk};
-ghost use Rattle.wf_recv_peer.specs.Agreements.{new_peer};
+ghost use Rattle.wf_recv_peer.specs.Agreements.{new_agreement, new_peer, with_agreement};
+ghost use Rattle.wf_recv_peer.specs.Buffer.{request_outcome as buffer_requested};
 ghost use Rattle.wf_cell_model.specs.Arriving.{buffer_outcome_of_transmission, peer_after, peer_requested};
 ghost use Rattle.wf_def_world.specs.World.{Content};
 ghost use Rattle.wf_cell_model.specs.Hearing.{AreNew, HasAddresses, agreement_of, peer_of, with_peer};
@@ -104,10 +105,23 @@ impl Peers {
         requires within { station < length self.old }
         requires tid { tid < 8 }
         requires empty { up.old ≡ [] }
-        ensures { self.new ≡ with_peer station
+        ensures moved { self.new ≡ with_peer station
             (peer_requested tid start (peer_of self.old station)) self.old }
+        ensures up { up.new ≡ (buffer_requested start (agreement_of self.old station tid).buffer).up }
     {
         self.list[usize::from(station)].move_to(tid, start, up);
+    }
+
+    /// A TID below 8 of a station's receive half begins anew, with first number `start` and a window of
+    /// `size`, 1 to 256. Nothing of it is stored.
+    pub(crate) fn renew(&mut self, station: u16, tid: u8, start: Seq12, size: u16)
+        requires within { station < length self.old }
+        requires tid { tid < 8 }
+        requires size { (1 ≤ size) × (size ≤ 256) }
+        ensures { self.new ≡ with_peer station
+            (with_agreement tid (new_agreement start size) (peer_of self.old station)) self.old }
+    {
+        self.list[usize::from(station)].reset_tid(tid, start, size);
     }
 
     /// A station's BlockAck for a TID below 8, written as octets and read back.

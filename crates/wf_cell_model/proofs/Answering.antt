@@ -1,14 +1,14 @@
--- Proves the effect of an Answer on the receive halves and the marks.
-use Rattle.std.proofs.Common.{◌≡◌, refl, ap, sym, ◌∙◌, subst, ℕ, ◌%◌, nat_lt, Bool, List, map, Option, Some, None}
+-- Proves the effect of an Answer on the receive halves and the marks, and its reply.
+use Rattle.std.proofs.Common.{◌≡◌, refl, ap, sym, ◌∙◌, subst, ℕ, ◌%◌, nat_lt, Bool, true, false, if◌then◌else◌, List, map, Option, Some, None}
 use Rattle.wf_frame.specs.declared.notes.Ask.TheVariants.{Answer}
 use Rattle.wf_frame.specs.declared.notes.Note.TheVariants.{Asked}
 use Rattle.wf_frame.specs.declared.notes.ReplyNote.{ReplyNote}
-use Rattle.wf_frame.specs.declared.notes.ReplyNote.TheVariants.{Ba}
-use Rattle.wf_def_agreement.specs.Receiver.{score, bitmap_word}
+use Rattle.wf_frame.specs.declared.notes.ReplyNote.TheVariants.{Ack, Ba}
+use Rattle.wf_def_agreement.specs.Receiver.{Score, score, bitmap_word}
 use Rattle.wf_def_lists.specs.Table.{bits_word}
 use Rattle.wf_def_world.specs.World.{World, Exchange, receiver, exchange, is_wide, with_exchange}
 use Rattle.wf_def_world.specs.Refusals.{refusal}
-use Rattle.wf_def_world.specs.Step.{answer_outcome, outcome_where_open, outcome_of, step}
+use Rattle.wf_def_world.specs.Step.{answer_reply as answer_reply_of, answer_outcome, outcome_where_open, outcome_of, step}
 use Rattle.wf_law_runs.proofs.Releases.Kept.{keep_answered}
 use Rattle.wf_law_driver.proofs.Opened.{with_replaced, found_number}
 use Rattle.wf_recv_marks.specs.declared.marks.Mark.{Mark}
@@ -41,7 +41,8 @@ answered_opened w x = refl
 
 receivers_answered : (w : World) (x : Exchange) → SameReceivers w (answer_outcome w x).world
 unfolding answer_outcome
-receivers_answered w x = receivers_exchange w (record x { answer = Some (score (receiver w x.station x.tid)) })
+receivers_answered w x = receivers_exchange w
+    (record x { answer = Some (score (receiver w x.station x.tid)) })
 
 pub answered_hears : (peers : List PeerValue) (marks : List Mark) (w : World) (e : ℕ) (x : Exchange) →
     IsReached w → Hears peers marks w →
@@ -67,13 +68,19 @@ answered_hears peers marks w e x reached h found fine =
     (found_number w e x found) it
     ∙ ap (map mark_of) (sym (ap (λ (v : World). v.opened) same ∙ answered_opened w x)))) h
 
-answer_says : (w : World) (x : Exchange) → (answer_outcome w x).reply ≡
+-- the reply of an Answer: an Ack if the exchange is plain, else a BlockAck
+reply_is : (plain : Bool) (b : Score) (wide : Bool) → answer_reply_of plain b wide ≡ (if plain then Ack else
+    Ba (b.start % 4096) (bitmap_word b 0) (bitmap_word b 1) (bitmap_word b 2) (bitmap_word b 3) wide)
+reply_is true b wide = refl
+reply_is false b wide = refl
+
+answer_says : (w : World) (x : Exchange) → (answer_outcome w x).reply ≡ (if x.plain then Ack else
     Ba ((score (receiver w x.station x.tid)).start % 4096)
     (bitmap_word (score (receiver w x.station x.tid)) 0)
     (bitmap_word (score (receiver w x.station x.tid)) 1) (bitmap_word (score (receiver w x.station x.tid)) 2)
-    (bitmap_word (score (receiver w x.station x.tid)) 3) (is_wide w x.station x.tid)
+    (bitmap_word (score (receiver w x.station x.tid)) 3) (is_wide w x.station x.tid))
 unfolding answer_outcome
-answer_says w x = refl
+answer_says w x = reply_is x.plain (score (receiver w x.station x.tid)) (is_wide w x.station x.tid)
 
 pub answer_wide : (peers : List PeerValue) (marks : List Mark) (w : World) (e : ℕ) (x : Exchange) →
     IsReached w → Hears peers marks w →
@@ -90,18 +97,19 @@ says b wide = Ba b.start (bits_word 0 b.offsets) (bits_word 1 b.offsets) (bits_w
 pub answer_reply : (peers : List PeerValue) (marks : List Mark) (w : World) (e : ℕ) (x : Exchange) →
     IsReached w → Hears peers marks w →
     exchange w e ≡ Some x → refusal w (Asked (Answer e)) ≡ None →
-    (step w (Asked (Answer e))).reply ≡
+    (step w (Asked (Answer e))).reply ≡ (if x.plain then Ack else
     Ba (agreement_of peers x.station x.tid).board.start
     (bits_word 0 (agreement_of peers x.station x.tid).board.offsets)
     (bits_word 1 (agreement_of peers x.station x.tid).board.offsets)
     (bits_word 2 (agreement_of peers x.station x.tid).board.offsets)
     (bits_word 3 (agreement_of peers x.station x.tid).board.offsets)
-    (nat_lt 64 (agreement_of peers x.station x.tid).board.size)
+    (nat_lt 64 (agreement_of peers x.station x.tid).board.size))
 unfolding outcome_of outcome_where_open says
 answer_reply peers marks w e x reached h found fine =
     let b : Board = (agreement_of peers x.station x.tid).board in
     reply_done w (Asked (Answer e)) fine
     ∙ (ap (λ (o : Option Exchange). (outcome_where_open w o (λ y. answer_outcome w y)).reply) found
     ∙ (answer_says w x
-    ∙ (ap (says (board_of (receiver w x.station x.tid))) (sym (answer_wide peers marks w e x reached h found))
+    ∙ ap (λ (ba : ReplyNote). if x.plain then Ack else ba)
+    (ap (says (board_of (receiver w x.station x.tid))) (sym (answer_wide peers marks w e x reached h found))
     ∙ ap (λ (k : Board). says k (nat_lt 64 b.size)) (sym (board_now peers marks w e x reached h found)))))

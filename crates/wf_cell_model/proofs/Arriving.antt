@@ -8,7 +8,7 @@ use Rattle.wf_frame.specs.declared.notes.ReplyNote.TheVariants.{Released}
 use Rattle.wf_def_lists.specs.Table.{at, with_member}
 use Rattle.wf_def_agreement.specs.Receiver.{Receiver, released_between}
 use Rattle.wf_def_agreement.specs.Session.{Session, slot}
-use Rattle.wf_def_world.specs.World.{World, Exchange, Content, Frames, Request, session, receiver, exchange, is_live, on_receiver, on_tid, on_station, with_station, with_exchange}
+use Rattle.wf_def_world.specs.World.{World, Exchange, Content, Frames, Request, session, receiver, exchange, is_live, is_agreed, on_receiver, on_tid, on_station, with_station, with_exchange}
 use Rattle.wf_def_world.specs.CanSend.{with_listings_of}
 use Rattle.wf_def_world.specs.Exchanges.{transmissions, no_mpdu, mpdus_of, after_arrival, ids_of}
 use Rattle.wf_def_world.specs.Refusals.{refusals, refusal}
@@ -23,7 +23,7 @@ use Rattle.wf_law_runs.proofs.Frames.Delivered.{opened_on_receiver}
 use Rattle.wf_law_driver.proofs.Opened.{with_replaced, step_done, some_at, found_number}
 use Rattle.wf_recv_marks.specs.declared.marks.Mark.{Mark}
 use Rattle.wf_recv_marks.specs.Marks.{with_arrival, with_changed}
-use Rattle.wf_recv_peer.specs.Agreements.{PeerValue, AgreementValue, agreement}
+use Rattle.wf_recv_peer.specs.Agreements.{PeerValue, AgreementValue}
 use Rattle.wf_recv_peer_refines.specs.Half.{ReceiveHalfStandsFor}
 use Rattle.wf_recv_peer_refines.proofs.Halves.{stands_data, up_data, stands_request, up_request}
 use Rattle.wf_send_half_model.specs.Standing.{IsReached}
@@ -91,6 +91,7 @@ arrived_own : (w : World) (x : Exchange) (i : ℕ) → is_live w x.station ≡ t
       session = session w x.station x.tid;
       receiver =
           after_arrival x.content i (receiver w x.station x.tid);
+      agreed = is_agreed w x.station x.tid;
     }
 unfolding arrive_outcome
 arrived_own w x i live = side_taken w x _ (after_arrival x.content i) live
@@ -202,5 +203,6 @@ module _ (peers : List PeerValue) (marks : List Mark) (w : World) (e i id : ℕ)
       reply_done w (Asked (Arrive e i)) fine
       ∙ (ap (λ (k : Option Exchange). (outcome_where_open w k (λ z. arrive_outcome w z i)).reply) known
       ∙ (arrived_reply w x i
-      ∙ ap (λ (ids : List ℕ). Released (if x.batch then [] else ids)) (sym (up_after x.content (carried y) (receiver w x.station x.tid)
+      ∙ ap (λ (ids : List ℕ). Released (if x.batch then [] else ids))
+      (sym (up_after x.content (carried y) (receiver w x.station x.tid)
       (agreement_of peers x.station x.tid) i id (reach_now w e i x reached known fine) carries stood))))

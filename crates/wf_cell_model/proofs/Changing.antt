@@ -1,6 +1,6 @@
 -- Proves that the receive halves represent a world in which one agreement differs, if the station's half
 -- gets this agreement.
-use Rattle.std.proofs.Common.{◌≡◌, ap, sym, ◌∙◌, subst, arith, ℕ, ◌<◌, ◌==◌, true, List, map, length, slice_set}
+use Rattle.std.proofs.Common.{◌≡◌, ap, sym, ◌∙◌, subst, arith, ℕ, ◌<◌, ◌==◌, true, List, map, slice_set}
 use Rattle.std.proofs.lemmas.List.{length-set}
 use Rattle.wf_frame.specs.declared.settings.Config.{Config}
 use Rattle.wf_law_rules.proofs.Lemmas.Numbers.{on_bool, eq_yes, eq_no}

@@ -1,7 +1,7 @@
 -- Proves which calls leave every receive half unchanged.
 use Rattle.std.proofs.Common.{◌≡◌, ◌≢◌, refl, ap, ap₂, sym, ◌∙◌, subst, ℕ, ◌==◌, Bool, true, false, List, [], ◌∷◌, map, Option, Some, None, is_some, if◌then◌else◌, length}
 use Rattle.wf_frame.specs.declared.settings.Config.{Config}
-use Rattle.wf_frame.specs.declared.notes.Ask.TheVariants.{Join, Leave, Rate, Tick, Pull, Arrive, Answer, Done, Sleep, Wake, Poll, Rx, Reap, Ampdu, Stop, Start, Unsent, GiveUp, Flush, Offload, Weight}
+use Rattle.wf_frame.specs.declared.notes.Ask.TheVariants.{Join, Leave, Rate, Tick, Pull, Arrive, Answer, Done, Sleep, Wake, Poll, Rx, Reap, Ampdu, Stop, Start, Unsent, GiveUp, Flush, Offload, Weight, Plain, Hold, Begin, Free, Cease}
 use Rattle.wf_frame.specs.declared.notes.Note.{Note}
 use Rattle.wf_frame.specs.declared.notes.Note.TheVariants.{Enqueue, Asked}
 use Rattle.wf_frame.specs.declared.notes.Refusal.{Refusal}
@@ -10,13 +10,13 @@ use Rattle.wf_frame.specs.Classes.{all_classes}
 use Rattle.wf_def_lists.specs.Table.{at, upto, with_member}
 use Rattle.wf_def_agreement.specs.Receiver.{Receiver}
 use Rattle.wf_def_agreement.specs.Session.{Session}
-use Rattle.wf_def_world.specs.World.{World, Station, Exchange, session, receiver, is_live, exchange, with_exchange, with_station, opening}
+use Rattle.wf_def_world.specs.World.{World, Station, Tid, Mode, Exchange, session, receiver, is_live, exchange, with_exchange, with_station, with_mode, opening}
 use Rattle.wf_def_world.specs.CanSend.{with_listings_of}
 use Rattle.wf_def_world.specs.Refusals.{refusal}
 use Rattle.wf_def_world.specs.Exchanges.{after_pick}
 use Rattle.wf_frame.specs.declared.classes.Class.{Class}
-use Rattle.wf_def_world.specs.Step.{Outcome, after_tids_left, without_listings, leave_outcome, rate_outcome, tick_outcome, outcome_where_open, sleep_outcome, wake_outcome, poll_outcome, rx_outcome, reap_outcome, unsent_outcome, give_up_outcome, outcome_of, concerned_station, after_refusal, judged_outcome, step}
-use Rattle.wf_law_runs.proofs.Windows.Sides.{Side, Same, sides_of, then_same, same_on_station, same_on_share, same as same_world, same_listed, same_after_pick, same_weighed}
+use Rattle.wf_def_world.specs.Step.{Outcome, after_tids_left, without_listings, leave_outcome, rate_outcome, tick_outcome, outcome_where_open, sleep_outcome, wake_outcome, poll_outcome, rx_outcome, reap_outcome, unsent_outcome, give_up_outcome, hold_outcome, free_outcome, outcome_of, concerned_station, after_refusal, judged_outcome, step}
+use Rattle.wf_law_runs.proofs.Windows.Sides.{Side, Same, sides_of, each_side_on, on_live, on_opened, then_same, same_on_station, same_on_share, same as same_world, same_listed, same_after_pick, same_weighed}
 use Rattle.wf_law_runs.proofs.Windows.Agreed.{IsLawful, lawful, same_left_tids, same_off_lists}
 use Rattle.wf_law_runs.proofs.Frames.Delivered.{same_enqueued}
 use Rattle.wf_law_runs.proofs.Releases.Kept.{Kept, KeptSession, kept_equal, then_kept, kept_same, keep_unsent, keep_given_up}
@@ -161,6 +161,22 @@ unfolding reap_outcome
 left_reaped [] w = left_here w w refl refl
 left_reaped (id ∷ ids) w = left_here w _ refl refl
 
+-- the mode of a TID changes
+left_moded : (w : World) (s t : ℕ) (mode : Mode) → IsLeft w (with_mode w s t mode)
+unfolding with_mode
+left_moded w s t mode =
+    let f : Tid → Tid = λ y. record y { mode = mode } in
+    record {
+      stays = record {
+        live = λ i l. sym (on_live w s t f i) ∙ l;
+        receivers = λ i j _. each_side_on (λ a b z. z.receiver ≡ receiver w a b) w s t f (λ a b. refl) refl i
+            j;
+        sessions = λ i j _. kept_equal (session w i j) _
+            (each_side_on (λ a b z. z.session ≡ session w a b) w s t f (λ a b. refl) refl i j);
+      };
+      opened = on_opened w s t f;
+    }
+
 -- a call that changes no open exchange either: any other than a mark
 abbrev pub IsQuiet : Note → Type 0
 IsQuiet (Asked (Unsent e i)) = ⊥
@@ -169,6 +185,7 @@ IsQuiet note = IsUntold note
 
 pub left_quiet : (note : Note) (w : World) → IsQuiet note → IsLeft w (outcome_of w note).world
 unfolding outcome_of tick_outcome rate_outcome sleep_outcome wake_outcome poll_outcome rx_outcome
+    hold_outcome free_outcome
 left_quiet (Enqueue s t flow len) w k = left_same w _ (same_enqueued w s t flow len)
 left_quiet (Asked (Join s window start exponent weight)) w k = absurd k
 left_quiet (Asked (Leave s)) w k = left_gone w s
@@ -191,6 +208,11 @@ left_quiet (Asked (GiveUp e n)) w k = absurd k
 left_quiet (Asked (Flush s t)) w k = absurd k
 left_quiet (Asked (Offload s exponent weight)) w k = absurd k
 left_quiet (Asked (Weight s weight)) w k = left_same w _ (same_weighed w s weight)
+left_quiet (Asked (Plain s start exponent weight)) w k = absurd k
+left_quiet (Asked (Hold s t)) w k = left_moded w s t _
+left_quiet (Asked (Begin s t window)) w k = absurd k
+left_quiet (Asked (Free s t)) w k = left_moded w s t _
+left_quiet (Asked (Cease s t)) w k = absurd k
 
 -- An idle pull leaves what receivers have, whether it changes the lists or not.
 left_idle : (b : Bool) (w : World) (c : Class) → IsLeft w (if b then w else after_pick w c)

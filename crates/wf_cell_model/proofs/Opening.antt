@@ -87,7 +87,8 @@ picked_live w c l =
     (λ s h. k.live s ∙ left_true (is_live w s) _ h)
     (pick_ready (station_need w c) (is_ready w c) (rotation w c))
 
-opened_marks : (w : World) (c : Class) (l : Limits) → IsLawful w → is_none (picked_station w c).winner ≡ false →
+opened_marks : (w : World) (c : Class) (l : Limits) → IsLawful w →
+    is_none (picked_station w c).winner ≡ false →
     map mark_of (pull_outcome w c l).world.opened ≡ map mark_of w.opened ++ new_mark w.exchanges ∷ []
 unfolding pull_outcome
 opened_marks w c l i some =
@@ -114,7 +115,8 @@ sent_number : (w : World) (c : Class) (l : Limits) (e s t charge : ℕ) (part : 
 unfolding pull_outcome
 sent_number w c l e s t charge part more i h =
     let k : Same w (picked_world w c l) = same_picked w c l in
-    pulled_number (picked_station w c).winner (picked_world w c l) c e s t charge part more (picked_live w c l)
+    pulled_number (picked_station w c).winner (picked_world w c l) c e s t charge part more
+    (picked_live w c l)
     (lawful_same _ _ k i) h ∙ k.exchanges
 
 judged_number : (o : Option Refusal) (w : World) (c : Class) (l : Limits) (e s t charge : ℕ) (part : Part)

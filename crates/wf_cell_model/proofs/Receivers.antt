@@ -1,14 +1,14 @@
 -- Proves which changes of a world change no receiver.
-use Rattle.std.proofs.Common.{◌≡◌, refl, ap, ◌∙◌, ℕ, List, [], ◌∷◌}
+use Rattle.std.proofs.Common.{◌≡◌, refl, ap, ◌∙◌, ℕ}
 use Rattle.wf_frame.specs.declared.classes.Class.{Class}
 use Rattle.wf_frame.specs.declared.notes.Limits.{Limits}
 use Rattle.wf_def_agreement.specs.Session.{Session, Slot, State, End, slot, on_slot, is_failed, with_state, with_number_given}
 use Rattle.wf_law_rules.proofs.Lemmas.Numbers.{on_if}
 use Rattle.wf_def_world.specs.World.{World, Exchange, Mpdu, session, receiver, on_session, with_exchange}
-use Rattle.wf_def_world.specs.Exchanges.{with_flying, with_exchange_opened, with_failed_finished, with_settled, with_all_settled}
+use Rattle.wf_def_world.specs.Exchanges.{with_flying, with_exchange_opened, with_failed_finished, with_settled}
 use Rattle.wf_def_world.specs.Step.{pull_outcome}
 use Rattle.wf_law_runs.proofs.Common.Ends.{slot_after_end, on_settled}
-use Rattle.wf_law_runs.proofs.Windows.Sides.{Side, Same, each_side_on, same, same_finish}
+use Rattle.wf_law_runs.proofs.Windows.Sides.{Side, Same, each_side_on, same_finish}
 use Rattle.wf_law_runs.proofs.Windows.Agreed.{IsLawful}
 use Rattle.wf_law_runs.proofs.Kept.Pulls.{along_pull}
 

@@ -2,7 +2,7 @@
 -- window, so a BlockAck with 64 or 256 bits has them all.
 use Rattle.std.proofs.Common.{◌≡◌, refl, ap, sym, ◌∙◌, subst, arith, ℕ, ◌+◌, ◌-◌, ◌*◌, ◌%◌, ◌<◌, ◌≤◌, ◌==◌, nat_le, nat_lt, Bool, true, false, not, ◌&&◌, ◌||◌, inl, inr, List, [], ◌∷◌, ◌++◌, map, filter, Option, Some, None, IfSome, option_map, if◌then◌else◌}
 use Rattle.wf_frame.specs.declared.classes.Class.{Class}
-use Rattle.wf_frame.specs.declared.notes.Ask.TheVariants.{Join, Leave, Rate, Tick, Pull, Arrive, Answer, Done, Sleep, Wake, Poll, Rx, Reap, Ampdu, Stop, Start, Unsent, GiveUp, Flush, Offload, Weight}
+use Rattle.wf_frame.specs.declared.notes.Ask.TheVariants.{Join, Leave, Rate, Tick, Pull, Arrive, Answer, Done, Sleep, Wake, Poll, Rx, Reap, Ampdu, Stop, Start, Unsent, GiveUp, Flush, Offload, Weight, Plain, Hold, Begin, Free, Cease}
 use Rattle.wf_frame.specs.declared.notes.Limits.{Limits}
 use Rattle.wf_frame.specs.declared.notes.Note.{Note}
 use Rattle.wf_frame.specs.declared.notes.Note.TheVariants.{Enqueue, Asked}
@@ -11,20 +11,21 @@ use Rattle.wf_def_lists.specs.Table.{has, with_member}
 use Rattle.wf_def_agreement.specs.Receiver.{Receiver, Score, score, score_start, shows}
 use Rattle.wf_def_agreement.specs.Session.{Session}
 use Rattle.wf_law_rules.proofs.Lemmas.Numbers.{on_bool, eq_yes, lt_yes, le_yes, yes_le, yes_lt, either, both}
-use Rattle.wf_def_world.specs.World.{World, Exchange, Mpdu, session, receiver, exchange, is_live, is_wide, with_exchange, without_exchange, opening}
+use Rattle.wf_def_world.specs.World.{World, Exchange, Mpdu, session, receiver, exchange, is_live, is_wide, with_station, with_exchange, without_exchange, opening}
 use Rattle.wf_def_world.specs.Exchanges.{mpdus_of, numbers_unsent, picked_station, sending_tid, Prepared, exchange_of, with_exchange_opened}
-use Rattle.wf_def_world.specs.Refusals.{refusal}
+use Rattle.wf_def_world.specs.Refusals.{refusals, refusal}
 use Rattle.wf_def_world.specs.Run.{Entry, world_after}
-use Rattle.wf_def_world.specs.Step.{Outcome, send_outcome, pull_outcome_for, pull_outcome, answer_outcome, unsent_outcome, give_up_outcome, done_outcome, outcome_where_open, outcome_of, concerned_station, step}
-use Rattle.wf_law_runs.specs.Kept.{KeepsByCall}
+use Rattle.wf_def_world.specs.Step.{Outcome, join_outcome, offload_outcome, plain_outcome, send_outcome, pull_outcome_for, pull_outcome, answer_outcome, unsent_outcome, give_up_outcome, done_outcome, outcome_where_open, outcome_of, concerned_station, step}
+use Rattle.wf_law_runs.specs.Kept.{is_agreement_of}
 use Rattle.wf_law_runs.specs.Windows.{EachMpdu}
 use Rattle.wf_law_runs.proofs.Common.Picked.{picked_world}
 use Rattle.wf_law_runs.proofs.Kept.Law.{kept_step}
-use Rattle.wf_law_runs.proofs.Windows.Sides.{Same, same_listed, same_picked, same_after_turn, same_spent}
-use Rattle.wf_law_runs.proofs.Windows.Opened.{Each, each_both, each_append, each_filter, each_find}
-use Rattle.wf_law_runs.proofs.Windows.Agreed.{IsLawful, IsOpenIn, each_map_if, lawful_same, lawful_step, lawful_at_first}
+use Rattle.wf_law_runs.proofs.Windows.Sides.{opened_begun, opened_ceased, Same, same_listed, same_picked, same_after_turn, same_spent}
+use Rattle.wf_law_runs.proofs.Windows.Opened.{no_row, Each, each_map, each_both, each_append, each_filter, each_find}
+use Rattle.wf_law_runs.proofs.Windows.Agreed.{IsLawful, IsOpenIn, none_of_tid, each_map_if, lawful_same, lawful_step, lawful_at_first}
 use Rattle.wf_law_runs.proofs.Frames.Delivered.{IsPrepared, opened_ended}
 use Rattle.wf_law_runs.proofs.Releases.Kept.{opened_flushed}
+use Rattle.wf_law_runs.proofs.Releases.Released.{refused_kept}
 use Rattle.wf_law_driver.proofs.Opened.{step_done, some_at}
 use Rattle.wf_law_driver.proofs.Indices.{each_mpdu}
 use Rattle.wf_octets.specs.Distance.{distance}
@@ -38,7 +39,6 @@ use Rattle.wf_recv_marks.specs.declared.marks.Mark.{Mark}
 use Rattle.wf_recv_peer.specs.Agreements.{PeerValue}
 use Rattle.wf_cell_model.proofs.Keeping.{IsLeft, left_quiet, left_refused, refused_world}
 use Rattle.wf_cell_model.proofs.Opening.{picked_live, ready_sent}
-use Rattle.wf_cell_model.proofs.Joining.{join_opened, offload_opened}
 use Rattle.wf_cell_model.proofs.Arriving.{arrived_opened}
 use Rattle.wf_cell_model.proofs.Sent.{open_now, right_now, ranges_now, tid_now}
 
@@ -191,11 +191,11 @@ left_below w v k h = subst (AllBelow w) (sym k.opened) h
 
 done_below : (note : Note) (w : World) → IsLawful w → AllBelow w w.opened →
     AllBelow w (outcome_of w note).world.opened
-unfolding outcome_of unsent_outcome give_up_outcome KeepsBelow
-done_below (Asked (Join s window start exponent weight)) w i h =
-    subst (AllBelow w) (sym (join_opened w s window start exponent weight)) h
-done_below (Asked (Offload s exponent weight)) w i h =
-    subst (AllBelow w) (sym (offload_opened w s exponent weight)) h
+unfolding outcome_of unsent_outcome give_up_outcome join_outcome offload_outcome plain_outcome with_station
+    KeepsBelow
+done_below (Asked (Join s window start exponent weight)) w i h = h
+done_below (Asked (Offload s exponent weight)) w i h = h
+done_below (Asked (Plain s start exponent weight)) w i h = h
 done_below (Asked (Pull c l)) w i h = pull_below w c l i h
 done_below (Asked (Arrive e n)) w i h =
     open_below (IsRead w) (exchange w e) w _ (read w i h e) h
@@ -225,6 +225,10 @@ done_below (Asked (GiveUp e n)) w i h = open_below (IsRead w) (exchange w e) w _
 done_below (Asked (Flush s t)) w i h = subst (AllBelow w) (sym (opened_flushed w s t)) h
 done_below (Asked (Weight s weight)) w i h =
     left_below w _ (left_quiet (Asked (Weight s weight)) w tt) h
+done_below (Asked (Hold s t)) w i h = left_below w _ (left_quiet (Asked (Hold s t)) w tt) h
+done_below (Asked (Begin s t window)) w i h = subst (AllBelow w) (sym (opened_begun w s t window)) h
+done_below (Asked (Free s t)) w i h = left_below w _ (left_quiet (Asked (Free s t)) w tt) h
+done_below (Asked (Cease s t)) w i h = subst (AllBelow w) (sym (opened_ceased w s t)) h
 
 judged_below : (w : World) (note : Note) (o : Option Refusal) → refusal w note ≡ o → IsLawful w →
     AllBelow w w.opened → AllBelow w (step w note).world.opened
@@ -237,30 +241,79 @@ judged_below w note None e i h =
 
 -- ---- the open exchanges after a call, in the world after it
 
-still_below : (w v : World) (note : Note) (x : Exchange) → v ≡ (step w note).world → KeepsByCall w note →
-    is_live v x.station ≡ true →
-    KeepsBelow w x → KeepsBelow v x
+-- the window of an exchange's TID is as before, if its station stays
+abbrev KeepsSize : World → World → Exchange → Type 0
+KeepsSize w v x = is_live w x.station ≡ true → is_live v x.station ≡ true →
+    (session v x.station x.tid).size ≡ (session w x.station x.tid).size
+
+-- a call that asks for the begin or the end of an agreement asks it of a TID without this exchange
+abbrev IsElsewhere : Note → Exchange → Type 0
+IsElsewhere note x = is_agreement_of x.station x.tid note ≡ false
+
+each_always : (P : Exchange → Type 0) (xs : List Exchange) → ((x : Exchange) → P x) → Each P xs
+each_always P [] h = tt
+each_always P (x ∷ xs) h = (h x, each_always P xs h)
+
+not_both : (s t i j : ℕ) → (s ≡ i → t ≡ j → ⊥) → ((s == i) && (t == j)) ≡ false
+not_both s t i j apart = on_bool ((s == i) && (t == j))
+    (λ h. let p = both (s == i) (t == j) h in absurd (apart (eq_yes s i p.0) (eq_yes t j p.1))) (λ h. h)
+
+-- An agreement begins and ends only while no exchange of its TID is open.
+each_elsewhere : (note : Note) (w : World) → refusal w note ≡ None →
+    Each (IsElsewhere note) (outcome_of w note).world.opened
+unfolding outcome_of
+each_elsewhere (Asked (Begin s t window)) w fine =
+    subst (Each (IsElsewhere (Asked (Begin s t window)))) (sym (opened_begun w s t window))
+    (each_map (λ x. s ≡ x.station → t ≡ x.tid → ⊥) (IsElsewhere (Asked (Begin s t window))) w.opened
+    (λ x apart. not_both s t x.station x.tid apart)
+    (none_of_tid s t w.opened (no_row (refusals w (Asked (Begin s t window))) fine).1.1.1.1.1.0))
+each_elsewhere (Asked (Cease s t)) w fine =
+    subst (Each (IsElsewhere (Asked (Cease s t)))) (sym (opened_ceased w s t))
+    (each_map (λ x. s ≡ x.station → t ≡ x.tid → ⊥) (IsElsewhere (Asked (Cease s t))) w.opened
+    (λ x apart. not_both s t x.station x.tid apart)
+    (none_of_tid s t w.opened (no_row (refusals w (Asked (Cease s t))) fine).1.1.1.1.0))
+each_elsewhere note w fine = each_always (IsElsewhere note) (outcome_of w note).world.opened (λ x. refl)
+
+sizes_kept : (w : World) (note : Note) (o : Option Refusal) → refusal w note ≡ o → IsLawful w →
+    Each (KeepsSize w (step w note).world) (step w note).world.opened
+sizes_kept w note (Some r) e i = each_always _ _ (λ x _ _.
+    ap (λ (u : World). (session u x.station x.tid).size) (refused_world w note r e)
+    ∙ (refused_kept note r w).sizes x.station x.tid)
+sizes_kept w note None e i =
+    let u : World = (outcome_of w note).world in
+    let opened : (step w note).world.opened ≡ u.opened = ap (λ (z : World). z.opened) (step_done w note e)
+    ∙ (same_listed (concerned_station w note) u).opened in
+    each_map (IsElsewhere note) (KeepsSize w (step w note).world) (step w note).world.opened
+    (λ x apart live now. (kept_step w note i).windows x.station x.tid live now apart)
+    (subst (Each (IsElsewhere note)) (sym opened) (each_elsewhere note w e))
+
+-- an exchange that is open after a call, in the world after it
+record IsStill (w v : World) (x : Exchange) : Type 0 where
+  live : is_live v x.station ≡ true
+  size : KeepsSize w v x
+
+still_below : (w v : World) (x : Exchange) → IsStill w v x → KeepsBelow w x → KeepsBelow v x
 unfolding KeepsBelow
-still_below w v note x is k live h = go x.answer h
+still_below w v x still h = go x.answer h
   where
     go : (o : Option Score) → IfSome o (λ b. (is_live w x.station ≡ true) ×
         AreBelow (session w x.station x.tid).size b.offsets) →
         IfSome o (λ b. (is_live v x.station ≡ true) × AreBelow (session v x.station x.tid).size b.offsets)
     go None h = tt
-    go (Some b) h =
-        let now : is_live (step w note).world x.station ≡ true =
-        subst (λ (u : World). is_live u x.station ≡ true) is live in
-        let size : (session v x.station x.tid).size ≡ (session w x.station x.tid).size =
-        ap (λ (u : World). (session u x.station x.tid).size) is ∙ (k.numbers x.station x.tid h.0 now).size in
-        (live, subst (λ (n : ℕ). AreBelow n b.offsets) (sym size) h.1)
+    go (Some b) h = (
+      still.live,
+      subst (λ (n : ℕ). AreBelow n b.offsets) (sym (still.size h.0 still.live)) h.1,
+    )
 
 step_below : (w : World) (note : Note) → IsLawful w → AllBelow w w.opened →
     AllBelow (step w note).world (step w note).world.opened
 step_below w note i h =
     let v : World = (step w note).world in
-    each_both (KeepsBelow w) (IsOpenIn v) (KeepsBelow v) v.opened
-    (λ x b o. still_below w v note x refl (kept_step w note i) o.live b)
-    (judged_below w note (refusal w note) refl i h) (lawful_step w note i).opened
+    each_both (KeepsBelow w) (IsStill w v) (KeepsBelow v) v.opened (λ x b still. still_below w v x still b)
+    (judged_below w note (refusal w note) refl i h)
+    (each_both (IsOpenIn v) (KeepsSize w v) (IsStill w v) v.opened
+    (λ x o size. record { live = o.live; size = size }) (lawful_step w note i).opened
+    (sizes_kept w note (refusal w note) refl i))
 
 run_below : (es : List Entry) (w : World) → IsLawful w → AllBelow w w.opened →
     AllBelow (world_after w es) (world_after w es).opened

@@ -2,7 +2,7 @@
 -- a reply has.
 use Rattle.std.proofs.Common.{◌≡◌, refl, ap, sym, ◌∙◌, ℕ, nat_le, ◌==◌, not, ◌&&◌, ◌||◌, Bool, true, false, List, [], ◌∷◌, map, find, Option, Some, None, IfSome, is_some, is_none, option_map, if◌then◌else◌, length}
 use Rattle.wf_frame.specs.declared.classes.Class.{Class}
-use Rattle.wf_frame.specs.declared.notes.Ask.TheVariants.{Join, Leave, Rate, Tick, Pull, Arrive, Answer, Done, Sleep, Wake, Poll, Rx, Reap, Ampdu, Stop, Start, Unsent, GiveUp, Flush, Offload, Weight}
+use Rattle.wf_frame.specs.declared.notes.Ask.TheVariants.{Join, Leave, Rate, Tick, Pull, Arrive, Answer, Done, Sleep, Wake, Poll, Rx, Reap, Ampdu, Stop, Start, Unsent, GiveUp, Flush, Offload, Weight, Plain, Hold, Begin, Free, Cease}
 use Rattle.wf_frame.specs.declared.notes.Limits.{Limits}
 use Rattle.wf_frame.specs.declared.notes.Note.{Note}
 use Rattle.wf_frame.specs.declared.notes.Note.TheVariants.{Enqueue, Asked}
@@ -10,12 +10,12 @@ use Rattle.wf_frame.specs.declared.notes.Refusal.{Refusal}
 use Rattle.wf_frame.specs.declared.notes.Refusal.TheVariants.{NoExchange, NoAnswer, BadAir, BadIndex, Answered, Arrived, Marked, Nothing}
 use Rattle.wf_frame.specs.declared.notes.ReplyNote.TheVariants.{Refused}
 use Rattle.wf_def_lists.specs.Table.{has}
-use Rattle.wf_def_agreement.specs.Receiver.{Score}
-use Rattle.wf_def_world.specs.World.{World, Exchange, exchange}
+use Rattle.wf_def_agreement.specs.Receiver.{Score, score}
+use Rattle.wf_def_world.specs.World.{World, Exchange, exchange, receiver, is_wide}
 use Rattle.wf_def_world.specs.Exchanges.{transmissions, is_marked, picked_station}
 use Rattle.wf_def_world.specs.Refusals.{first_refusal, exchange_has, refusal}
 use Rattle.wf_frame.specs.Settings.{is_bad_air}
-use Rattle.wf_def_world.specs.Step.{Outcome, join_outcome, leave_outcome, rate_outcome, tick_outcome, enqueue_outcome, send_outcome, pull_outcome_for, pull_outcome, arrive_outcome, answer_outcome, done_outcome, outcome_where_open, sleep_outcome, wake_outcome, poll_outcome, rx_outcome, reap_outcome, unsent_outcome, give_up_outcome, flush_outcome, offload_outcome, weight_outcome, outcome_of, judged_outcome, step}
+use Rattle.wf_def_world.specs.Step.{Outcome, join_outcome, leave_outcome, rate_outcome, tick_outcome, enqueue_outcome, send_outcome, pull_outcome_for, pull_outcome, arrive_outcome, answer_outcome, done_outcome, outcome_where_open, sleep_outcome, wake_outcome, poll_outcome, rx_outcome, reap_outcome, unsent_outcome, give_up_outcome, flush_outcome, offload_outcome, weight_outcome, plain_outcome, hold_outcome, begin_outcome, free_outcome, cease_outcome, answer_reply, outcome_of, judged_outcome, step}
 use Rattle.wf_law_runs.specs.Delivery.{is_batch}
 use Rattle.wf_law_runs.proofs.Common.Picked.{picked_world}
 use Rattle.wf_send_half.specs.Marks.{HasNotArrived as IsUntoldOf}
@@ -147,8 +147,10 @@ answer_inferred peers marks w e h = answer_rows (exchange w e)
     ∙ ap (λ (m : Option Mark). answer_refusal m (is_batch (exchange w e))) (sym (mark_told peers marks w e h))
 
 done_rows : (o : Option Exchange) (config : Config) (heard : Bool) (air : Option ℕ) →
-    first_refusal ((is_none o, NoExchange) ∷ (heard && exchange_has o (λ x. not x.batch && is_none x.answer), NoAnswer)
-    ∷ (is_bad_air config air, BadAir) ∷ []) ≡ done_refusal config (option_map mark_of o) (is_batch o) heard air
+    first_refusal ((is_none o, NoExchange)
+    ∷ (heard && exchange_has o (λ x. not x.batch && is_none x.answer), NoAnswer)
+    ∷ (is_bad_air config air, BadAir) ∷ [])
+    ≡ done_refusal config (option_map mark_of o) (is_batch o) heard air
 unfolding first_refusal
 done_rows None config heard air = refl
 done_rows (Some x) config heard air = ap (λ (b : Bool). if heard && (not x.batch && b) then Some NoAnswer
@@ -159,7 +161,8 @@ pub done_inferred : (peers : List PeerValue) (marks : List Mark) (w : World) (e 
     refusal w (Asked (Done e heard air))
     ≡ done_refusal w.config (mark_in marks e) (is_batch (exchange w e)) heard air
 done_inferred peers marks w e heard air h = done_rows (exchange w e) w.config heard air
-    ∙ ap (λ (m : Option Mark). done_refusal w.config m (is_batch (exchange w e)) heard air) (sym (mark_told peers marks w e h))
+    ∙ ap (λ (m : Option Mark). done_refusal w.config m (is_batch (exchange w e)) heard air)
+    (sym (mark_told peers marks w e h))
 
 -- ---- replies
 
@@ -185,10 +188,16 @@ unfolding reap_outcome
 never_reaped [] w r h = cc h
 never_reaped (id ∷ ids) w r h = cc h
 
+never_answered : (plain : Bool) (b : Score) (wide : Bool) (r : Refusal) →
+    answer_reply plain b wide ≡ Refused r → ⊥
+never_answered true b wide r h = cc h
+never_answered false b wide r h = cc h
+
 never_refused : (note : Note) (w : World) (r : Refusal) → (outcome_of w note).reply ≡ Refused r → ⊥
 unfolding outcome_of enqueue_outcome join_outcome leave_outcome rate_outcome tick_outcome arrive_outcome
     answer_outcome done_outcome sleep_outcome wake_outcome poll_outcome rx_outcome unsent_outcome
-    give_up_outcome flush_outcome offload_outcome weight_outcome
+    give_up_outcome flush_outcome offload_outcome weight_outcome plain_outcome hold_outcome begin_outcome
+    free_outcome cease_outcome
 never_refused (Enqueue s t flow len) w r h = cc h
 never_refused (Asked (Join s window start exponent weight)) w r h = cc h
 never_refused (Asked (Leave s)) w r h = cc h
@@ -196,7 +205,8 @@ never_refused (Asked (Rate s rate)) w r h = cc h
 never_refused (Asked (Tick by)) w r h = cc h
 never_refused (Asked (Pull c l)) w r h = never_pulled w c l r h
 never_refused (Asked (Arrive e n)) w r h = never_open (exchange w e) w _ r (λ x k. cc k) h
-never_refused (Asked (Answer e)) w r h = never_open (exchange w e) w _ r (λ x k. cc k) h
+never_refused (Asked (Answer e)) w r h = never_open (exchange w e) w _ r
+    (λ x k. never_answered x.plain (score (receiver w x.station x.tid)) (is_wide w x.station x.tid) r k) h
 never_refused (Asked (Done e heard air)) w r h = never_open (exchange w e) w _ r (λ x k. cc k) h
 never_refused (Asked (Sleep s)) w r h = cc h
 never_refused (Asked (Wake s)) w r h = cc h
@@ -211,6 +221,11 @@ never_refused (Asked (GiveUp e n)) w r h = never_open (exchange w e) w _ r (λ x
 never_refused (Asked (Flush s t)) w r h = cc h
 never_refused (Asked (Offload s exponent weight)) w r h = cc h
 never_refused (Asked (Weight s weight)) w r h = cc h
+never_refused (Asked (Plain s start exponent weight)) w r h = cc h
+never_refused (Asked (Hold s t)) w r h = cc h
+never_refused (Asked (Begin s t window)) w r h = cc h
+never_refused (Asked (Free s t)) w r h = cc h
+never_refused (Asked (Cease s t)) w r h = cc h
 
 judged_refused : (o : Option Refusal) (w : World) (note : Note) (r : Refusal) →
     (judged_outcome w note o).reply ≡ Refused r → o ≡ Some r

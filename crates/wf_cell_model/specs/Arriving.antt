@@ -2,7 +2,7 @@
 use Rattle.std.specs.Prelude.{◌≡◌, ℕ, ◌%◌, slice_set}
 use Rattle.wf_frame.specs.declared.notes.Note.{Note}
 use Rattle.wf_frame.specs.declared.notes.Note.TheVariants.{Asked}
-use Rattle.wf_frame.specs.declared.notes.Ask.TheVariants.{Join, Offload, Flush, Pull, Arrive, Answer, Done}
+use Rattle.wf_frame.specs.declared.notes.Ask.TheVariants.{Join, Offload, Plain, Begin, Cease, Flush, Pull, Arrive, Answer, Done}
 use Rattle.wf_def_lists.specs.Table.{at}
 use Rattle.wf_def_agreement.specs.Receiver.{Receiver}
 use Rattle.wf_def_world.specs.World.{Content, Frames, Request}
@@ -53,10 +53,13 @@ abbrev pub MayReach : Receiver → ℕ → Content → Type 0
 MayReach r i (Frames mpdus) = IsInReach r (at no_mpdu mpdus i).number
 MayReach r i (Request start) = IsRequestInReach r start
 
--- a call that changes neither a receive half nor a mark: any call except these seven
+-- a call that changes neither a receive half nor a mark: any call except these ten
 abbrev pub IsUntold : Note → Type 0
 IsUntold (Asked (Join s window start exponent weight)) = ⊥
 IsUntold (Asked (Offload s exponent weight)) = ⊥
+IsUntold (Asked (Plain s start exponent weight)) = ⊥
+IsUntold (Asked (Begin s t window)) = ⊥
+IsUntold (Asked (Cease s t)) = ⊥
 IsUntold (Asked (Flush s t)) = ⊥
 IsUntold (Asked (Pull c limits)) = ⊥
 IsUntold (Asked (Arrive e i)) = ⊥

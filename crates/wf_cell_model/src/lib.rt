@@ -11,13 +11,13 @@
 
 ghost use Rattle.std.specs.Prelude.{◌≡◌, ◌<◌, ◌≤◌, if◌then◌else◌, ℕ, ◌==◌, not, ◌++◌, Bool, List, [], ◌∷◌, Some, None, IfSome, option_map, filter, length, nat_lt, All, Option};
 ghost use Rattle.wf_frame.specs.declared.classes.Class.{Class};
-ghost use Rattle.wf_frame.specs.declared.notes.Ask.TheVariants.{Join, Offload, Flush, Pull, Arrive, Answer, Done, Unsent};
+ghost use Rattle.wf_frame.specs.declared.notes.Ask.TheVariants.{Join, Offload, Plain, Begin, Cease, Flush, Pull, Arrive, Answer, Done, Unsent};
 ghost use Rattle.wf_frame.specs.declared.notes.Limits.{Limits};
 ghost use Rattle.wf_frame.specs.declared.notes.Note.{Note};
 ghost use Rattle.wf_frame.specs.declared.notes.Note.TheVariants.{Asked};
 ghost use Rattle.wf_frame.specs.declared.notes.Part.{Part};
 ghost use Rattle.wf_frame.specs.declared.notes.Refusal.{Refusal};
-ghost use Rattle.wf_frame.specs.declared.notes.ReplyNote.TheVariants.{Ba, Refused, Released, Send};
+ghost use Rattle.wf_frame.specs.declared.notes.ReplyNote.TheVariants.{Ack, Ba, Refused, Released, Send};
 ghost use Rattle.wf_frame.specs.declared.settings.Config.{Config};
 ghost use Rattle.wf_def_agreement.specs.Receiver.{Score};
 ghost use Rattle.wf_def_lists.specs.Bounds.{greatest_window};
@@ -25,18 +25,20 @@ ghost use Rattle.wf_def_lists.specs.Table.{bits_word, has};
 ghost use Rattle.wf_def_world.specs.World.{World, Exchange, exchange, is_wide, opening, receiver};
 ghost use Rattle.wf_def_world.specs.Exchanges.{transmissions};
 ghost use Rattle.wf_def_world.specs.Refusals.{exchange_has, refusal};
-ghost use Rattle.wf_def_world.specs.Step.{step};
+ghost use Rattle.wf_def_world.specs.Step.{plain_window, step};
 ghost use Rattle.wf_law_runs.specs.Delivery.{is_batch};
 ghost use Rattle.wf_send_parts.specs.declared.exchanges.opened.TheConstants.{MOST_OPEN};
 ghost use Rattle.wf_recv_marks.specs.Marks.{new_mark, with_arrival, with_answer, with_changed};
 ghost use Rattle.wf_recv_marks.specs.declared.marks.Mark.{Mark};
 ghost use Rattle.wf_recv_peer.specs.Agreements.{PeerValue};
+ghost use Rattle.wf_recv_peer.specs.Buffer.{request_outcome as buffer_requested};
+ghost use Rattle.wf_send_half_model.specs.Flushing.{released_at_cease};
 ghost use Rattle.wf_send_half_model.specs.Standing.{IsReached};
 ghost use Rattle.wf_send_half.specs.Bits.{AreShown};
 ghost use Rattle.wf_send_half.specs.Marks.{HasNotArrived as IsUntoldOf};
 ghost use Rattle.wf_cell_model.specs.Answers.{KeepsShown};
 ghost use Rattle.wf_cell_model.specs.Arriving.{peer_after, buffer_outcome_of_transmission, CarriesId, MayReach, IsUntold};
-ghost use Rattle.wf_cell_model.specs.Catching.{peers_caught_up};
+ghost use Rattle.wf_cell_model.specs.Catching.{twelve_bit_start, peers_caught_up, peers_renewed};
 ghost use Rattle.wf_cell_model.specs.Hearing.{peer_of, agreement_of, with_peer, new_receive_half, AreNew, kept_of, mark_of, Hears};
 ghost use Rattle.wf_cell_model.specs.Refusing.{mark_in, told_refusal, arrive_refusal, answer_refusal, done_refusal};
 
@@ -45,8 +47,8 @@ pub fn a_new_cell()
     ensures { (c : Config) (peers : List PeerValue) → AreNew c.stations peers → Hears peers [] (opening c) }
 {}
 
-/// Any call except a Join, an Offload, a Flush, a Pull, an Arrive, an Answer or a Done leaves the receive
-/// halves and the marks unchanged; so does a refused call.
+/// Any call leaves the receive halves and the marks unchanged, except a Join, an Offload, a Plain, a Begin, a
+/// Cease, a Flush, a Pull, an Arrive, an Answer and a Done; so does a refused call.
 pub fn a_call_that_no_receiver_hears()
     ensures untold { (peers : List PeerValue) (marks : List Mark) (w : World) (note : Note) → IsReached w →
         Hears peers marks w →
@@ -57,7 +59,8 @@ pub fn a_call_that_no_receiver_hears()
 {}
 
 /// A station that joins has new agreements, with this window and from this number on. Both are in their
-/// ranges. An offloaded one has the widest windows, from number 0 on.
+/// ranges. An offloaded one has the widest windows, from number 0 on, and one without agreements has windows
+/// of one number.
 pub fn a_station_joins()
     ensures hears { (peers : List PeerValue) (marks : List Mark) (w : World)
         (s window start exponent weight : ℕ) → IsReached w → Hears peers marks w →
@@ -69,6 +72,15 @@ pub fn a_station_joins()
         refusal w (Asked (Offload s exponent weight)) ≡ None →
         Hears (with_peer s (new_receive_half s 0 greatest_window) peers) marks
         (step w (Asked (Offload s exponent weight))).world }
+    ensures plain { (peers : List PeerValue) (marks : List Mark) (w : World) (s start exponent weight : ℕ) →
+        IsReached w → Hears peers marks w →
+        refusal w (Asked (Plain s start exponent weight)) ≡ None →
+        Hears (with_peer s (new_receive_half s start plain_window) peers) marks
+        (step w (Asked (Plain s start exponent weight))).world }
+    ensures plain_station { (w : World) (s start exponent weight : ℕ) →
+        refusal w (Asked (Plain s start exponent weight)) ≡ None → s < w.config.stations }
+    ensures plain_start { (w : World) (s start exponent weight : ℕ) →
+        refusal w (Asked (Plain s start exponent weight)) ≡ None → start < 4096 }
     ensures offloaded_station { (w : World) (s exponent weight : ℕ) →
         refusal w (Asked (Offload s exponent weight)) ≡ None → s < w.config.stations }
     ensures station { (w : World) (s window start exponent weight : ℕ) →
@@ -100,8 +112,8 @@ pub fn an_exchange_opens()
         All (λ m. m.number < w.exchanges) marks }
 {}
 
-/// The end of an exchange removes its mark. If its station is offloaded, the receive half catches up with the
-/// window of its TID.
+/// The end of an exchange removes its mark. If its TID has no agreement, the receive half catches up with the
+/// window of the TID.
 pub fn an_exchange_ends()
     ensures { (peers : List PeerValue) (marks : List Mark) (w : World) (e : ℕ) (heard : Bool)
         (air : Option ℕ) (x : Exchange) → IsReached w →
@@ -111,12 +123,43 @@ pub fn an_exchange_ends()
         (filter (λ m. not (m.number == e)) marks) (step w (Asked (Done e heard air))).world }
 {}
 
-/// A TID is flushed. If its station is offloaded, the receive half catches up with its window.
+/// A TID is flushed. If it has no agreement, the receive half catches up with its window.
 pub fn a_tid_is_flushed()
-    ensures { (peers : List PeerValue) (marks : List Mark) (w : World) (s t : ℕ) → IsReached w →
+    ensures station { (w : World) (s t : ℕ) → refusal w (Asked (Flush s t)) ≡ None → s < w.config.stations }
+    ensures tid { (w : World) (s t : ℕ) → refusal w (Asked (Flush s t)) ≡ None → t < 8 }
+    ensures hears { (peers : List PeerValue) (marks : List Mark) (w : World) (s t : ℕ) → IsReached w →
         Hears peers marks w → refusal w (Asked (Flush s t)) ≡ None →
         Hears (peers_caught_up (step w (Asked (Flush s t))).world s t peers) marks
         (step w (Asked (Flush s t))).world }
+{}
+
+/// An agreement begins: the TID of the receive half begins anew at the start of the window, with this window,
+/// which is in its range.
+pub fn an_agreement_begins()
+    ensures station { (w : World) (s t window : ℕ) → refusal w (Asked (Begin s t window)) ≡ None →
+        s < w.config.stations }
+    ensures tid { (w : World) (s t window : ℕ) → refusal w (Asked (Begin s t window)) ≡ None → t < 8 }
+    ensures window { (w : World) (s t window : ℕ) → refusal w (Asked (Begin s t window)) ≡ None →
+        (1 ≤ window) × (window ≤ 256) }
+    ensures hears { (peers : List PeerValue) (marks : List Mark) (w : World) (s t window : ℕ) →
+        IsReached w → Hears peers marks w → refusal w (Asked (Begin s t window)) ≡ None →
+        Hears (peers_renewed (step w (Asked (Begin s t window))).world s t window peers) marks
+        (step w (Asked (Begin s t window))).world }
+{}
+
+/// An agreement ends: the window of the receive half moves to its start after the call, as by a BlockAckReq,
+/// which passes up exactly the ids of the reply. Then the TID begins anew there, with a window of one number.
+pub fn an_agreement_ends()
+    ensures station { (w : World) (s t : ℕ) → refusal w (Asked (Cease s t)) ≡ None → s < w.config.stations }
+    ensures tid { (w : World) (s t : ℕ) → refusal w (Asked (Cease s t)) ≡ None → t < 8 }
+    ensures hears { (peers : List PeerValue) (marks : List Mark) (w : World) (s t : ℕ) → IsReached w →
+        Hears peers marks w → refusal w (Asked (Cease s t)) ≡ None →
+        Hears (peers_renewed (step w (Asked (Cease s t))).world s t plain_window peers) marks
+        (step w (Asked (Cease s t))).world }
+    ensures up { (peers : List PeerValue) (marks : List Mark) (w : World) (s t : ℕ) → IsReached w →
+        Hears peers marks w → refusal w (Asked (Cease s t)) ≡ None →
+        (buffer_requested (twelve_bit_start (step w (Asked (Cease s t))).world s t)
+        (agreement_of peers s t).buffer).up ≡ released_at_cease w s t }
 {}
 
 /// Transmission i of an open exchange arrives at its station, within the reach of its receiver. The agreement
@@ -143,7 +186,8 @@ pub fn a_transmission_arrives()
 {}
 
 /// A station answers an open exchange: the mark keeps the start and the offsets of its scoreboard, and the
-/// reply has them too. The BlockAck is wide if the TID's window is above 64.
+/// reply has them too, or is an Ack if the exchange is plain. The BlockAck is wide if the TID's window is
+/// above 64.
 pub fn an_answer_is_made()
     ensures hears { (peers : List PeerValue) (marks : List Mark) (w : World) (e : ℕ) (x : Exchange) →
         IsReached w → Hears peers marks w →
@@ -155,9 +199,9 @@ pub fn an_answer_is_made()
         IsReached w → Hears peers marks w →
         exchange w e ≡ Some x → refusal w (Asked (Answer e)) ≡ None →
         let board = (agreement_of peers x.station x.tid).board in
-        (step w (Asked (Answer e))).reply ≡
+        (step w (Asked (Answer e))).reply ≡ (if x.plain then Ack else
         Ba board.start (bits_word 0 board.offsets) (bits_word 1 board.offsets) (bits_word 2 board.offsets)
-        (bits_word 3 board.offsets) (nat_lt 64 board.size) }
+        (bits_word 3 board.offsets) (nat_lt 64 board.size)) }
     ensures wide { (peers : List PeerValue) (marks : List Mark) (w : World) (e : ℕ) (x : Exchange) →
         IsReached w → Hears peers marks w →
         exchange w e ≡ Some x → nat_lt 64 (agreement_of peers x.station x.tid).board.size

@@ -14,7 +14,7 @@ use Rattle.wf_send_half_model.specs.Standing.{StandsFor}
 use Rattle.wf_path.specs.Jobs.{changes_nothing}
 use Rattle.wf_cell_model.specs.Refusing.{mark_in}
 use Rattle.wf_cell.proofs.Calls.{ended_reply}
-use Rattle.wf_cell.proofs.Exchanges.{told_tid, told_station, done_refused, done_met, ended_meets}
+use Rattle.wf_cell.proofs.Exchanges.{told_tid, told_station, told_live, done_refused, done_met, ended_meets}
 use Rattle.wf_cell.proofs.Inside.{inside, of_parts}
 use Rattle.wf_cell.proofs.engine.Engine.done.Goals as goal
 
@@ -59,7 +59,8 @@ returns-in-Ok-clause-meets c = λ w bodies i.
     c.catch_up.ensures.marks_kept
     (ended_meets _ w bodies x.exchange x.heard x.air j d.new.self.half (reply_with d.result pairs up)
     c.in-Ok.found.sent told done met c.catch_up.new.self.peers c.close_at.new.self
-    (c.catch_up.ensures.peers (step w note).world bodies met.stands)
+    (c.catch_up.ensures.peers (step w note).world bodies met.stands
+    (told_live w x.exchange x.heard x.air j.half.reached c.in-Ok.found.sent told done))
     (c.close_at.ensures.closed x.exchange place))
 
 pub returns-in-Ok-clause-path_kept : goal.returns-in-Ok-clause-path_kept

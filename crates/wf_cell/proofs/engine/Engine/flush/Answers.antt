@@ -12,7 +12,7 @@ use Rattle.wf_frame.specs.declared.notes.Note.TheVariants.{Asked}
 use Rattle.wf_frame.specs.declared.notes.ReplyNote.{ReplyNote}
 use Rattle.wf_def_world.specs.Step.{step}
 use Rattle.wf_send_half_model.specs.Half.{TransmitValue}
-use Rattle.wf_cell_model.proofs.Catching.{flushed_station, flushed_tid}
+use Rattle.wf_cell_model.proofs.Catching.{flushed_station, flushed_tid, live_when_flushed}
 use Rattle.wf_cell.proofs.Calls.{IsFlushed, is_flushed, not_flushed, flushed_brief, same_flushed, flushed_meets, refused_meets}
 use Rattle.wf_cell.proofs.Inside.{inside, of_parts}
 use Rattle.wf_cell.proofs.engine.Engine.flush.Goals as goal
@@ -55,13 +55,14 @@ returns-in-Flushed-clause-meets c = λ w bodies i.
       is = sym m.reply ∙ ap (λ (b : Brief). reply_with b a.pairs a.ids) c.in-Flushed.is;
     }) in
     let u : EngineValue = c.catch_up.new.self in
-    of_parts (λ (k : EngineValue). EngineMeets w bodies note k (reply_with a.brief a.pairs c.catch_up.new.up)) u
-    after c.self.inside.marks c.catch_up.ensures.path_kept c.catch_up.ensures.marks_kept
+    of_parts (λ (k : EngineValue). EngineMeets w bodies note k (reply_with a.brief a.pairs c.catch_up.new.up))
+    u after c.self.inside.marks c.catch_up.ensures.path_kept c.catch_up.ensures.marks_kept
     (subst (λ (r : ReplyNote). EngineMeets w bodies note
     (record { half = after; peers = u.peers; marks = c.self.inside.marks }) r)
     (sym (same_flushed a.brief c.in-Flushed.dropped a.pairs a.ids c.catch_up.new.up c.in-Flushed.is))
     (flushed_meets _ after (reply_of a) w bodies x.station x.tid j m done u.peers
-    (c.catch_up.ensures.peers (step w note).world bodies m.stands)))
+    (c.catch_up.ensures.peers (step w note).world bodies m.stands
+    (live_when_flushed w x.station x.tid done))))
 
 pub returns-in_default-clause-meets : goal.returns-in_default-clause-meets
 returns-in_default-clause-meets c = λ w bodies i.

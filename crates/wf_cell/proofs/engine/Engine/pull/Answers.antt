@@ -26,7 +26,7 @@ open-requires-clause-room c =
       station = s.station;
       tid = s.tid;
       charge = s.air;
-      part = part_sent s.request s.batch a.pairs;
+      part = part_sent s.request s.kind a.pairs;
       more = s.more;
       is = ap (λ (b : Brief). reply_with b a.pairs a.ids) s.is;
     } in
@@ -45,7 +45,7 @@ open-requires-clause-above c =
       station = s.station;
       tid = s.tid;
       charge = s.air;
-      part = part_sent s.request s.batch a.pairs;
+      part = part_sent s.request s.kind a.pairs;
       more = s.more;
       is = ap (λ (b : Brief). reply_with b a.pairs a.ids) s.is;
     } in
@@ -63,7 +63,7 @@ returns-in-Send-clause-meets c = λ w bodies i.
       station = s.station;
       tid = s.tid;
       charge = s.air;
-      part = part_sent s.request s.batch a.pairs;
+      part = part_sent s.request s.kind a.pairs;
       more = s.more;
       is = ap (λ (b : Brief). reply_with b a.pairs a.ids) s.is;
     } in
