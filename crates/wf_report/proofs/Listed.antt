@@ -83,6 +83,7 @@ frames_short : (w : World) → IsStocked greatest_body w → (note : Note) (answ
 frames_short w all note (reply.Send e s t air part more) = sent_short w all e
 frames_short w all note (reply.Ba start b0 b1 b2 b3 wide) =
     acks_short start b0 b1 b2 b3 wide (option_and_then (exchange w) (exchange_answered note))
+frames_short w all note reply.Ack = (lit≤ tt, tt)
 frames_short w all note _ = tt
 
 writable_at : (at : ℕ) (frames : List (List ℕ)) → at < 2 ^ 32 * 1000000 → AreShort frames →

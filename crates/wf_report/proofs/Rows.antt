@@ -43,6 +43,14 @@ pub line_of_two : (out word : List ℕ) (head more : List (List ℕ)) →
 line_of_two out word head more =
     rw (join-spaced word (head ++ more), spaced-append head more) (simp append_assoc)
 
+-- A word and three rows, the last two of which follow one by one, as a line after other text.
+pub line_of_rows : (out word : List ℕ) (head more last : List (List ℕ)) →
+    ((((out ++ word) ++ spaced head) ++ spaced more) ++ spaced last) ++ 10 ∷ []
+    ≡ out ++ (join_with_byte 32 (word ∷ (head ++ (more ++ last))) ++ 10 ∷ [])
+line_of_rows out word head more last =
+    rw (join-spaced word (head ++ (more ++ last)), spaced-append head (more ++ last), spaced-append more last)
+    (simp append_assoc)
+
 pub joined_last : (out word : List ℕ) (head : List (List ℕ)) (last : List ℕ) →
     ((out ++ (word ++ spaced head)) ++ 32 ∷ []) ++ last ≡ out
     ++ join_with_byte 32 (word ∷ (head ++ last ∷ []))

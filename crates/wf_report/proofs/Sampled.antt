@@ -5,7 +5,7 @@ use Rattle.std.specs.Prelude.{◌==◌, slice_get, if◌then◌else◌}
 use Rattle.wf_frame.specs.Frames.{FrameValue, new_frame, sample_body, sent_again, sent_once_less}
 use Rattle.wf_frame.specs.declared.notes.Ask.TheVariants.{Pull, Unsent}
 use Rattle.wf_frame.specs.declared.notes.Note.{Note}
-use Rattle.wf_frame.specs.declared.notes.Part.TheVariants.{Mpdus, Batch}
+use Rattle.wf_frame.specs.declared.notes.Part.TheVariants.{Mpdus, Batch, Plain}
 use Rattle.wf_frame.specs.declared.notes.ReplyNote.{ReplyNote}
 use Rattle.wf_frame.specs.declared.notes.ReplyNote.TheVariants as reply
 use Rattle.wf_def_world.specs.World.{World, Mpdu, Exchange, Content, Frames, Request, exchange}
@@ -95,6 +95,7 @@ after_sample v w (Call (Pull class l)) answered bodies all brought = of answered
   where
     of : (r : ReplyNote) → (id : ℕ) → IsSample (bodies_sent r bodies id)
     of (reply.Send exchange station tid air (Mpdus pairs) more) = sent_samples pairs bodies all
+    of (reply.Send exchange station tid air (Plain pairs) more) = sent_samples pairs bodies all
     of (reply.Send exchange station tid air (Batch ids) more) =
         sent_samples (map (λ id. (id, 0)) ids) bodies all
     of _ = all

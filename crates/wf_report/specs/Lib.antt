@@ -7,6 +7,7 @@ pub mod ListingLines
 pub mod ListingReading
 pub mod ListingOutcome
 pub mod ListingLaw
+pub mod AckFrames
 pub mod BlockAcks
 pub mod Packets
 pub mod Captures

@@ -6,12 +6,13 @@ use Rattle.wf_frame.specs.declared.notes.Ask.TheVariants.{Answer}
 use Rattle.wf_frame.specs.declared.notes.Note.{Note}
 use Rattle.wf_frame.specs.declared.notes.Note.TheVariants.{Asked}
 use Rattle.wf_frame.specs.declared.notes.ReplyNote.{ReplyNote}
-use Rattle.wf_frame.specs.declared.notes.ReplyNote.TheVariants.{Send, Ba}
+use Rattle.wf_frame.specs.declared.notes.ReplyNote.TheVariants.{Send, Ba, Ack}
 use Rattle.wf_io.specs.Capture.{packet_octets}
 use Rattle.wf_report.specs.ListingLaw.{Sent}
 use Rattle.wf_def_world.specs.World.{World, Exchange, exchange}
 use Rattle.wf_path.specs.Addresses.{made_up}
 use Rattle.wf_path.specs.Transmissions.{frames_on_air}
+use Rattle.wf_report.specs.AckFrames.{ack_frame}
 use Rattle.wf_report.specs.BlockAcks.{block_ack_frame}
 
 -- The octets of each transmission of exchange e, by index, with placeholder addresses, or none if it is not
@@ -36,11 +37,12 @@ block_acks start words wide None = []
 block_acks start words wide (Some x) = block_ack_frame x.station x.tid start (words_told wide words) wide ∷ []
 
 -- The frames that a call puts on the air, by the world after it and its reply: each transmission of the
--- exchange that begins, by index, or the BlockAck of the exchange that is answered.
+-- exchange that begins, by index, or the BlockAck or the Ack of the exchange that is answered.
 abbrev pub frames_by : World → (ℕ → FrameValue) → Note → ReplyNote → List (List ℕ)
 frames_by w bodies note (Send e s t air part more) = frames_sent w bodies e
 frames_by w bodies note (Ba start b0 b1 b2 b3 wide) =
     block_acks start (b0 ∷ b1 ∷ b2 ∷ b3 ∷ []) wide (option_and_then (exchange w) (exchange_answered note))
+frames_by w bodies note Ack = ack_frame ∷ []
 frames_by w bodies note reply = []
 
 -- The packets of these frames, all with the same time.

@@ -1,9 +1,9 @@
--- Defines the words of the frames of an aggregate, and which answers are one word.
+-- Defines the words of the frames of an exchange, and which answers are one word.
 use Rattle.std.specs.Prelude.{ℕ, Bool, true, false, List, ◌++◌, codes, decimal}
 use Rattle.wf_frame.specs.declared.answers.Brief.{Brief}
-use Rattle.wf_frame.specs.declared.answers.Brief.TheVariants.{Joined, Set, Slept, Woken, Stopped, Started, Marked}
+use Rattle.wf_frame.specs.declared.answers.Brief.TheVariants.{Joined, Set, Slept, Woken, Stopped, Started, Marked, Ack, Begun, Freed}
 
--- A frame of an aggregate: its id and its sequence number.
+-- A frame of an aggregate or of a plain exchange: its id and its sequence number.
 abbrev pub pair_text : ℕ × ℕ → List ℕ
 pair_text p = decimal p.0 ++ codes ":" ++ decimal p.1
 
@@ -16,4 +16,7 @@ is_one_word Woken = true
 is_one_word Stopped = true
 is_one_word Started = true
 is_one_word Marked = true
+is_one_word Ack = true
+is_one_word Begun = true
+is_one_word Freed = true
 is_one_word _ = false

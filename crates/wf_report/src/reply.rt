@@ -1,6 +1,6 @@
 //! Writes the answer line of an answer.
 
-ghost use Rattle.std.specs.Prelude.{◌≡◌, ◌+◌, ◌≤◌, ◌++◌, ◌∷◌, [], length, map, decimal, codes, slice_index, ◌*◌, if◌then◌else◌, true};
+ghost use Rattle.std.specs.Prelude.{◌≡◌, ◌+◌, ◌≤◌, ◌++◌, ◌∷◌, [], length, map, decimal, codes, slice_index, ◌*◌, if◌then◌else◌, true, None};
 ghost use Rattle.wf_io.specs.Words.{spaced};
 ghost use Rattle.wf_def_world.specs.Text.{answer_line, part_words, score_digits};
 ghost use Rattle.wf_frame.specs.Answers.{part_sent, reply_of, reply_with};
@@ -9,7 +9,7 @@ ghost use Rattle.wf_frame.specs.Words.{line};
 ghost use Rattle.wf_report.specs.Replies.{is_one_word, pair_text};
 
 use crate::parts::push_hex;
-use wf_frame::{Answer, Brief, Fate, Ids, Pairs, Refusal};
+use wf_frame::{Answer, Brief, Fate, Ids, Kind, Pairs, Refusal};
 use wf_io::{Line, Word};
 
 // Writes the line of a refusal, with its number if it has one.
@@ -36,7 +36,7 @@ fn push_numbered(out: &mut Line, word: &'static [u8], number: u64)
     out.push(b'\n');
 }
 
-// Appends the frames of an aggregate, each with its sequence number.
+// Appends the frames of an exchange, each with its sequence number.
 fn push_pairs(out: &mut Line, pairs: &Pairs)
     requires { length out.old ≤ 200 }
     ensures text { out.new ≡ out.old ++ spaced (map pair_text pairs.now) }
@@ -84,21 +84,36 @@ fn push_batch(out: &mut Line, pairs: &Pairs)
     }
 }
 
-// Appends the frames or the request of an exchange.
-fn push_part(out: &mut Line, request: Option<u16>, batch: bool, pairs: &Pairs)
+// Appends the frames of an exchange, after the word for how it sends them.
+fn push_frames(out: &mut Line, kind: Kind, pairs: &Pairs)
     requires { length out.old ≤ 190 }
-    ensures text { out.new ≡ out.old ++ spaced (part_words (part_sent request batch pairs.now)) }
+    ensures text { out.new ≡ out.old ++ spaced (part_words (part_sent None kind pairs.now)) }
     ensures len { length out.new ≤ 7200 }
 {
-    match request {
-        None if batch => {
-            out.push_words(&[Word::Text(b"batch")]);
-            push_batch(out, pairs);
-        }
-        None => {
+    match kind {
+        Kind::Aggregate => {
             out.push_words(&[Word::Text(b"data")]);
             push_pairs(out, pairs);
         }
+        Kind::Batch => {
+            out.push_words(&[Word::Text(b"batch")]);
+            push_batch(out, pairs);
+        }
+        Kind::Plain => {
+            out.push_words(&[Word::Text(b"plain")]);
+            push_pairs(out, pairs);
+        }
+    }
+}
+
+// Appends the frames or the request of an exchange.
+fn push_part(out: &mut Line, request: Option<u16>, kind: Kind, pairs: &Pairs)
+    requires { length out.old ≤ 190 }
+    ensures text { out.new ≡ out.old ++ spaced (part_words (part_sent request kind pairs.now)) }
+    ensures len { length out.new ≤ 7200 }
+{
+    match request {
+        None => push_frames(out, kind, pairs),
         Some(start) => {
             out.push_words(&[Word::Text(b"bar"), Word::Number(u64::from(start))]);
         }
@@ -229,6 +244,18 @@ fn push_released(out: &mut Line, ids: &Ids)
     out.push(b'\n');
 }
 
+// Writes the line of an agreement that ended: how many frames were dropped, and those that the receiver
+// passed up.
+fn push_ceased(out: &mut Line, dropped: u32, ids: &Ids)
+    requires { out.old ≡ [] }
+    ensures { out.new ≡ line (codes "ceased" ∷ decimal dropped ∷ map decimal ids.now) }
+{
+    out.push_all(b"ceased");
+    out.push_words(&[Word::Number(u64::from(dropped))]);
+    push_ids(out, ids);
+    out.push(b'\n');
+}
+
 // Writes the line of an answer that is one word; there is no other answer here.
 fn push_word(out: &mut Line, brief: Brief)
     requires empty { out.old ≡ [] }
@@ -243,6 +270,9 @@ fn push_word(out: &mut Line, brief: Brief)
         Brief::Stopped => out.push_line(b"stopped", &[]),
         Brief::Started => out.push_line(b"started", &[]),
         Brief::Marked => out.push_line(b"marked", &[]),
+        Brief::Ack => out.push_line(b"ack", &[]),
+        Brief::Begun => out.push_line(b"begun", &[]),
+        Brief::Freed => out.push_line(b"freed", &[]),
         _ => {}
     }
 }
@@ -256,6 +286,8 @@ pub fn print_reply(answer: &Answer, out: &mut Line)
         Brief::Left { dropped } => push_numbered(out, b"left", u64::from(dropped)),
         Brief::Flushed { dropped } => push_numbered(out, b"flushed", u64::from(dropped)),
         Brief::Now { now } => push_numbered(out, b"now", now),
+        Brief::Held { start } => push_numbered(out, b"held", u64::from(start)),
+        Brief::Ceased { dropped } => push_ceased(out, dropped, &answer.ids),
         Brief::Accepted { id, dropped } => push_accepted(out, id, dropped),
         Brief::Send {
             exchange,
@@ -263,11 +295,11 @@ pub fn print_reply(answer: &Answer, out: &mut Line)
             tid,
             air,
             request,
-            batch,
+            kind,
             more,
         } => {
             push_exchange(out, exchange, station, tid, air);
-            push_part(out, request, batch, &answer.pairs);
+            push_part(out, request, kind, &answer.pairs);
             push_more(out, more);
         }
         Brief::Released => push_released(out, &answer.ids),

@@ -18,17 +18,16 @@ use wf_cell::Cell;
 use wf_frame::Class;
 use wf_io::{Failed, Line, Sink, Word, write_line};
 
-// Appends how many frames were dropped by flushes, if any, and ends the line.
-fn push_flushed(out: &mut Line, flushed: u64)
-    requires { length out.old ≤ 4096 }
-    ensures text { out.new ≡ out.old
-        ++ (spaced (if flushed == 0 then [] else codes "flushed" ∷ decimal flushed ∷ []) ++ 10 ∷ []) }
+// Appends how many frames were dropped for a cause, if any were.
+fn push_dropped(out: &mut Line, cause: &'static [u8], count: u64)
+    requires room { length out.old ≤ 4096 }
+    requires short { length cause.now ≤ 8 }
+    ensures text { out.new ≡ out.old ++ spaced (if count == 0 then [] else cause.now ∷ decimal count ∷ []) }
     ensures len { length out.new ≤ length out.old + 30 }
 {
-    if flushed != 0 {
-        out.push_words(&[Word::Text(b"flushed"), Word::Number(flushed)]);
+    if count != 0 {
+        out.push_words(&[Word::Text(cause), Word::Number(count)]);
     }
-    out.push(b'\n');
 }
 
 // Appends the line of the frames: how many were accepted, and how many of them have each fate.
@@ -54,7 +53,9 @@ fn push_frames(cell: &Cell, out: &mut Line)
         Word::Text(b"held"),
         Word::Number(tally.held()),
     ]);
-    push_flushed(out, tally.flushed);
+    push_dropped(out, b"flushed", tally.flushed);
+    push_dropped(out, b"ended", tally.ended);
+    out.push(b'\n');
 }
 
 // Writes the lines of the calls, the clock, the frames and the exchanges.

@@ -2,7 +2,7 @@
 
 ghost use Rattle.std.specs.Prelude.{◌≡◌, ◌≤◌, length, take, true};
 ghost use Rattle.wf_send_parts.specs.Tally.{held_in, counts_of};
-ghost use Rattle.wf_frame.specs.declared.classes.Cause.TheVariants.{Overlimit, Codel, Retries, Left, Flushed};
+ghost use Rattle.wf_frame.specs.declared.classes.Cause.TheVariants.{Overlimit, Codel, Retries, Left, Flushed, Ended};
 ghost use Rattle.wf_frame.specs.declared.classes.Fate.TheVariants.{Held, Acked, Dropped};
 ghost use Rattle.wf_def_world.specs.World.{accepted_count, is_live, share};
 ghost use Rattle.wf_def_world.specs.Run.{world_of};
@@ -42,6 +42,7 @@ pub fn tally(cell: &Cell) -> Tally
     ensures retries { result.retries ≡ tally_in (world_of cell.now.past) (Dropped Retries) }
     ensures left { result.left ≡ tally_in (world_of cell.now.past) (Dropped Left) }
     ensures flushed { result.flushed ≡ tally_in (world_of cell.now.past) (Dropped Flushed) }
+    ensures ended { result.ended ≡ tally_in (world_of cell.now.past) (Dropped Ended) }
     ensures held { held_in (counts_of result) ≡ tally_in (world_of cell.now.past) Held }
 {
     cell.path().tally()

@@ -1,8 +1,9 @@
 //! Encodes one frame as it is on the air.
 
-ghost use Rattle.std.specs.Prelude.{◌≡◌, ◌<◌, ◌≤◌, [], ◌∷◌, Some, take, true, false};
+ghost use Rattle.std.specs.Prelude.{◌≡◌, ◌<◌, ◌≤◌, [], ◌∷◌, Some, length, take, true, false};
 ghost use Rattle.wf_path.specs.Addresses.{made_up};
 ghost use Rattle.wf_path.specs.Transmissions.{octets_sent};
+ghost use Rattle.wf_report.specs.AckFrames.{ack_frame};
 ghost use Rattle.wf_report.specs.BlockAcks.{block_ack_frame};
 ghost use Rattle.wf_report.specs.Captures.{samples};
 ghost use Rattle.wf_report.specs.Samples.{IsSampled, HasTransmission, world_behind};
@@ -11,7 +12,9 @@ use wf_cell::Cell;
 use wf_octets::bits::{Bits64, Bits256};
 use wf_octets::block::{Ba, WideBa, encode_ba, encode_wide};
 use wf_octets::fields::put;
-use wf_octets::header::{GREATEST_MPDU, base_address, station_address};
+use wf_octets::header::{
+    DATA_HEADER_OCTETS, GREATEST_MPDU, Header, Kind, base_address, encode, station_address,
+};
 use wf_octets::seq12::Seq12;
 use wf_path::Sent;
 
@@ -36,6 +39,28 @@ pub(crate) fn transmission(
         Ok(len) => len,
         Err(_) => unreachable!(),
     }
+}
+
+/// Writes the Ack of a frame, and returns its number of octets.
+pub(crate) fn ack(octets: &mut [u8; DATA_HEADER_OCTETS]) -> usize
+    ensures within { result ≤ length octets.new }
+    ensures octets { take result octets.new ≡ ack_frame }
+{
+    let header = Header {
+        kind: Kind::Ack,
+        to_ds: false,
+        from_ds: false,
+        retry: false,
+        power: false,
+        more: false,
+        duration: 0,
+        a1: base_address(),
+        a2: [0; 6],
+        a3: [0; 6],
+        seq: Seq12::of(0),
+        tid: 0,
+    };
+    encode(&header, octets)
 }
 
 /// The content of a BlockAck: its start, 0 to 4095, and the words of its bitmap, those of the lowest offsets

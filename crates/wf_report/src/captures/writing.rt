@@ -6,17 +6,18 @@ ghost use Rattle.wf_frame.specs.Answers.{reply_of};
 ghost use Rattle.wf_io.specs.Faults.{CountsFaults};
 ghost use Rattle.wf_io.specs.Fronts.{HoldsFront};
 ghost use Rattle.wf_def_world.specs.World.{exchange as exchange_in};
+ghost use Rattle.wf_report.specs.AckFrames.{ack_frame};
 ghost use Rattle.wf_report.specs.Captures.{samples};
 ghost use Rattle.wf_report.specs.Packets.{frames_sent, block_acks, exchange_answered, frames_by, packets_at, octets_of_packets};
 ghost use Rattle.wf_report.specs.Samples.{IsSampled, world_behind};
 
-use crate::captures::frames::{Shown, narrow_ack, transmission, wide_ack};
+use crate::captures::frames::{Shown, ack, narrow_ack, transmission, wide_ack};
 use crate::captures::standing::sent;
 use wf_cell::Cell;
 use wf_frame::{Answer, Ask, Brief, Note};
 use wf_io::pcap::write_packet;
 use wf_io::{Failed, Sink};
-use wf_octets::header::GREATEST_MPDU;
+use wf_octets::header::{DATA_HEADER_OCTETS, GREATEST_MPDU};
 
 /// Returns the exchange that a call answers.
 fn exchange_answered(note: &Note) -> Option<u64>
@@ -81,6 +82,19 @@ fn write_block_ack<K: Sink>(
     }
 }
 
+/// Writes a packet for the Ack of a plain exchange.
+fn write_ack<K: Sink>(cell: &Cell, sink: &mut K) -> Result<(), Failed>
+    ensures written { OnOk result (K.held sink.new ≡ append_known (K.held sink.old)
+        (octets_of_packets (packets_at (world_behind cell.now).clock (ack_frame ∷ [])))) }
+    ensures front { HoldsFront (K.held sink.old) (K.held sink.new)
+        (octets_of_packets (packets_at (world_behind cell.now).clock (ack_frame ∷ []))) }
+    ensures cause { CountsFaults (K.faults sink.old) (K.faults sink.new) result }
+{
+    let mut octets = [0; DATA_HEADER_OCTETS];
+    let len = ack(&mut octets);
+    write_packet(sink, cell.clock(), &octets[..len])
+}
+
 /// Writes the packets of a call, from its answer and the cell after it.
 pub(crate) fn write_frames<K: Sink>(
     cell: &Cell,
@@ -121,6 +135,7 @@ pub(crate) fn write_frames<K: Sink>(
                 write_block_ack(cell, exchange, shown, wide, sink)
             }
         },
+        Brief::Ack => write_ack(cell, sink),
         _ => Ok(()),
     }
 }

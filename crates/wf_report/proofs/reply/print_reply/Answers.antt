@@ -12,7 +12,7 @@ returns-in-Send c =
     (line_of_three (codes "send")
     (decimal c.in-Send.exchange ∷ codes "sta" ∷ decimal c.in-Send.station
     ∷ codes "tid" ∷ decimal c.in-Send.tid ∷ codes "air" ∷ decimal c.in-Send.air ∷ [])
-    (part_words (part_sent c.in-Send.request c.in-Send.batch c.args.answer.now.pairs))
+    (part_words (part_sent c.in-Send.request c.in-Send.kind c.args.answer.now.pairs))
     (cond c.in-Send.more (codes "more" ∷ []) []))
 
 pub returns-in-Ba : goal.returns-in-Ba

@@ -47,6 +47,12 @@ returns-clause-flushed c =
     ap (λ (t : Counts). t.flushed) (c.tally.ensures.world (world_of c.args.cell.now.past) stands.0
     (rw (c.path.ensures.value) stands.1))
 
+pub returns-clause-ended : goal.returns-clause-ended
+returns-clause-ended c =
+    let stands = c.path.ensures.stands in
+    ap (λ (t : Counts). t.ended) (c.tally.ensures.world (world_of c.args.cell.now.past) stands.0
+    (rw (c.path.ensures.value) stands.1))
+
 pub returns-clause-held : goal.returns-clause-held
 returns-clause-held c =
     let stands = c.path.ensures.stands in
