@@ -10,7 +10,7 @@ use wf_run::help::Command;
 use wf_trace::{Arg, next_word};
 
 /// The most forms that a command has.
-const MOST_FORMS: usize = 30;
+const MOST_FORMS: usize = 35;
 
 /// The most arguments that a form has.
 const MOST_ARGS: usize = 6;

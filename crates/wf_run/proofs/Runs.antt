@@ -1,6 +1,6 @@
 -- Proves the clauses of `run` about faults and about words that are no command, and splits the end of a
 -- run into one statement per command. By cases of the command.
-use Rattle.std.proofs.Common.{◌≡◌, ℕ, Bool, List, ap, refl, subst}
+use Rattle.std.proofs.Common.{◌≡◌, ℕ, List, ap, refl, subst}
 use Rattle.std.specs.Prelude.{◌≢◌, Option, Some, None}
 use Rattle.wf_io.specs.declared.status.Status.{Status}
 use Rattle.wf_io.specs.declared.status.Status.TheVariants.{Usage, ReadFault, WriteFault}
@@ -19,6 +19,7 @@ use Rattle.wf_run.specs.Telling.{TellingStatusSays}
 use Rattle.wf_run.specs.Topics.{help_text, version_text}
 use Rattle.wf_run.specs.Outcome.{SoakStatusSays}
 use Rattle.wf_run.specs.declared.help.topic.Topic.{Topic}
+use Rattle.wf_run_histories.specs.declared.soak.soaks.SoakKind.{SoakKind}
 
 -- For every command: when the status is `Usage`, and how the status depends on faults.
 pub record RunSays {S K : Type 0} (command : Option Command) (read_faults : S → ℕ) (write_faults : K → ℕ)
@@ -102,9 +103,9 @@ says_by (Some Uplink) left read_faults held write_faults source source_new sink 
     of_reader Uplink left read_faults held write_faults _ _ source source_new sink sink_new status ends
 says_by (Some Frames) left read_faults held write_faults source source_new sink sink_new status ends =
     of_reader Frames left read_faults held write_faults _ _ source source_new sink sink_new status ends
-says_by (Some (Soak seed calls device)) left read_faults held write_faults source source_new sink sink_new status
-    ends =
-    of_writer (Soak seed calls device) read_faults held write_faults _ source source_new sink sink_new status
+says_by (Some (Soak seed calls kind)) left read_faults held write_faults source source_new sink sink_new
+    status ends =
+    of_writer (Soak seed calls kind) read_faults held write_faults _ source source_new sink sink_new status
     (λ written none. none) (λ written none. none) ends
 says_by (Some (Live seed senders frames)) left read_faults held write_faults source source_new sink sink_new
     status ends =
@@ -140,9 +141,9 @@ pub record EndsAsAsked {S K : Type 0} (command : Option Command) (left : S → O
       UplinkAnswered source source_new sink sink_new status
   pub frames : command ≡ Some Frames → CommandEnds left read_faults held write_faults FramesOutcome
       FramesAnswered source source_new sink sink_new status
-  pub soak : (seed calls : ℕ) (device : Bool) → command ≡ Some (Soak seed calls device) →
+  pub soak : (seed calls : ℕ) (kind : SoakKind) → command ≡ Some (Soak seed calls kind) →
       (source_new ≡ source) × CommandWrites held write_faults
-      (λ ended written. SoakStatusSays ended seed calls device written) sink sink_new status
+      (λ ended written. SoakStatusSays ended seed calls kind written) sink sink_new status
   pub live : (seed senders frames : ℕ) → command ≡ Some (Live seed senders frames) → (source_new ≡ source)
       × CommandWrites held write_faults (λ ended written. LiveStatusSays ended seed senders frames
       written) sink sink_new status
@@ -168,7 +169,7 @@ ends_as_asked command left read_faults held write_faults source source_new sink 
       session = λ is. by_command (Some Session) is;
       uplink = λ is. by_command (Some Uplink) is;
       frames = λ is. by_command (Some Frames) is;
-      soak = λ seed calls device is. by_command (Some (Soak seed calls device)) is;
+      soak = λ seed calls kind is. by_command (Some (Soak seed calls kind)) is;
       live = λ seed senders frames is. by_command (Some (Live seed senders frames)) is;
       help = λ topic is. by_command (Some (Help topic)) is;
       version = λ is. by_command (Some Version) is;

@@ -1,5 +1,5 @@
 -- Defines which command the words of a command line ask for.
-use Rattle.std.specs.Prelude.{ℕ, Bool, true, false, ◌≤◌, ◌^◌, ◌-◌, nat_le, ◌&&◌, List, [], ◌∷◌, codes, Option, Some, None, option_map, ◌||◌, if◌then◌else◌}
+use Rattle.std.specs.Prelude.{ℕ, Bool, ◌≤◌, ◌^◌, ◌-◌, nat_le, ◌&&◌, List, [], ◌∷◌, codes, Option, Some, None, option_map, ◌||◌, if◌then◌else◌}
 use Rattle.std.specs.List.{list_any}
 use Rattle.std.specs.Str.{bytes_eq}
 use Rattle.wf_io.specs.Digits.{value_from}
@@ -7,6 +7,8 @@ use Rattle.wf_trace.specs.Words.{is_plain_number}
 use Rattle.wf_run.specs.Topics.{topic_named}
 use Rattle.wf_run.specs.declared.help.topic.Topic.{Topic}
 use Rattle.wf_run.specs.declared.help.topic.Topic.TheVariants.{Overview}
+use Rattle.wf_run_histories.specs.declared.soak.soaks.SoakKind.{SoakKind}
+use Rattle.wf_run_histories.specs.declared.soak.soaks.SoakKind.TheVariants as soak
 use Rattle.wf_run.specs.declared.help.words.Command.{Command}
 use Rattle.wf_run.specs.declared.help.words.Command.TheVariants.{Replay, Soak, Live, Session, Uplink, Frames, Capture, Help, Version}
 
@@ -16,10 +18,10 @@ number_within low high word =
     if is_plain_number word && nat_le low (value_from 0 word) && nat_le (value_from 0 word) high
     then Some (value_from 0 word) else None
 
-unfoldable pub soak_of : Option ℕ → Option ℕ → Bool → Option Command
-soak_of (Some seed) (Some calls) device = Some (Soak seed calls device)
-soak_of (Some seed) None device = None
-soak_of None calls device = None
+unfoldable pub soak_of : Option ℕ → Option ℕ → SoakKind → Option Command
+soak_of (Some seed) (Some calls) kind = Some (Soak seed calls kind)
+soak_of (Some seed) None kind = None
+soak_of None calls kind = None
 
 unfoldable pub live_of : Option ℕ → Option ℕ → Option ℕ → Option Command
 live_of (Some seed) (Some senders) (Some frames) = Some (Live seed senders frames)
@@ -29,7 +31,7 @@ live_of None senders frames = None
 
 -- A soak has 1 to 1,000,000 calls; `live` has 1 to 8 senders, with 1 to 10,000 frames each.
 abbrev pub HasCallsInRange : Command → Type 0
-HasCallsInRange (Soak seed calls device) = (1 ≤ calls) × (calls ≤ 1000000)
+HasCallsInRange (Soak seed calls kind) = (1 ≤ calls) × (calls ≤ 1000000)
 HasCallsInRange (Live seed senders frames) = ((1 ≤ senders) × (senders ≤ 8)) ×
     ((1 ≤ frames) × (frames ≤ 10000))
 HasCallsInRange command = Unit {0}
@@ -54,14 +56,14 @@ two_words_command word option =
     if bytes_eq word (codes "replay") && bytes_eq option (codes "--pcap") then Some Capture
     else (if bytes_eq word (codes "help") then help_on option else None)
 
--- The command of three words, and of these and the word `device`.
-unfoldable pub soak_command : List ℕ → List ℕ → List ℕ → Bool → Option Command
-soak_command word seed calls device =
+-- The command of three words, and of these and the word for a kind of soak.
+unfoldable pub soak_command : List ℕ → List ℕ → List ℕ → SoakKind → Option Command
+soak_command word seed calls kind =
     if bytes_eq word (codes "soak")
-    then soak_of (number_within 0 (2 ^ 64 - 1) seed) (number_within 1 1000000 calls) device
+    then soak_of (number_within 0 (2 ^ 64 - 1) seed) (number_within 1 1000000 calls) kind
     else None
 
--- The command of four words, of which the last is not `device`.
+-- The command of four words, of which the last is not the word for a kind of soak.
 unfoldable pub live_command : List ℕ → List ℕ → List ℕ → List ℕ → Option Command
 live_command word seed senders frames =
     if bytes_eq word (codes "live")
@@ -71,17 +73,18 @@ live_command word seed senders frames =
 
 unfoldable pub four_words_command : List ℕ → List ℕ → List ℕ → List ℕ → Option Command
 four_words_command word one two three =
-    if bytes_eq three (codes "device") then soak_command word one two true
+    if bytes_eq three (codes "device") then soak_command word one two soak.Devices
+    else if bytes_eq three (codes "agreements") then soak_command word one two soak.Agreements
     else live_command word one two three
 
 -- The command of words that do not ask for help by `--help` or `-h`: `replay`, `session`, `uplink`, `frames`,
--- `help`, `--version`, `replay --pcap`, `help COMMAND`, `soak SEED CALLS`, `soak SEED CALLS device` and
--- `live SEED SENDERS FRAMES`.
+-- `help`, `--version`, `replay --pcap`, `help COMMAND`, `soak SEED CALLS`, `soak SEED CALLS device`,
+-- `soak SEED CALLS agreements` and `live SEED SENDERS FRAMES`.
 abbrev pub played_command_of : List (List ℕ) → Option Command
 played_command_of [] = None
 played_command_of (word ∷ []) = word_command word
 played_command_of (word ∷ option ∷ []) = two_words_command word option
-played_command_of (word ∷ seed ∷ calls ∷ []) = soak_command word seed calls false
+played_command_of (word ∷ seed ∷ calls ∷ []) = soak_command word seed calls soak.Standard
 played_command_of (word ∷ one ∷ two ∷ three ∷ []) = four_words_command word one two three
 played_command_of (word ∷ one ∷ two ∷ three ∷ other ∷ words) = None
 

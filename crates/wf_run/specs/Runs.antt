@@ -37,9 +37,10 @@ EndsBy (Some Uplink) left read_faults held write_faults source source_new sink s
 EndsBy (Some Frames) left read_faults held write_faults source source_new sink sink_new status =
     CommandEnds left read_faults held write_faults FramesOutcome FramesAnswered source source_new sink
     sink_new status
-EndsBy (Some (Soak seed calls device)) left read_faults held write_faults source source_new sink sink_new status =
+EndsBy (Some (Soak seed calls kind)) left read_faults held write_faults source source_new sink sink_new
+    status =
     (source_new ≡ source) × CommandWrites held write_faults
-    (λ ended written. SoakStatusSays ended seed calls device written) sink sink_new status
+    (λ ended written. SoakStatusSays ended seed calls kind written) sink sink_new status
 EndsBy (Some (Live seed senders frames)) left read_faults held write_faults source source_new sink sink_new
     status =
     (source_new ≡ source) × CommandWrites held write_faults

@@ -1,6 +1,6 @@
 //! Runs the command that the words of a command line ask for.
 
-ghost use Rattle.std.specs.Prelude.{◌≡◌, ◌≤◌, ◌↔◌, ℕ, Bool, IfSome, Some, None, map, string_bytes};
+ghost use Rattle.std.specs.Prelude.{◌≡◌, ◌≤◌, ◌↔◌, ℕ, IfSome, Some, None, map, string_bytes};
 ghost use Rattle.wf_trace.specs.CommandEnds.{CommandEnds, CommandWrites, TellsFault};
 ghost use Rattle.wf_run.specs.Commands.{command_of, HasCallsInRange};
 ghost use Rattle.wf_run.specs.Telling.{TellingStatusSays};
@@ -13,6 +13,7 @@ ghost use Rattle.wf_run_scripts.specs.SessionOutcome.{SessionOutcome, SessionAns
 ghost use Rattle.wf_run_scripts.specs.UplinkOutcome.{UplinkOutcome, UplinkAnswered};
 ghost use Rattle.wf_report.specs.ListingOutcome.{FramesOutcome, FramesAnswered};
 ghost use Rattle.wf_run_histories.specs.Lives.{LiveStatusSays};
+ghost use Rattle.wf_run_histories.specs.declared.soak.soaks.SoakKind.{SoakKind as KindOfSoak};
 ghost use Rattle.wf_run.specs.Outcome.{SoakStatusSays, ProgramLaws};
 ghost use Rattle.wf_run.specs.Runs.{RunEnds};
 
@@ -25,22 +26,22 @@ use wf_io::{Sink, Source, Status};
 use wf_report::captures::listing::frames;
 use wf_report::summary;
 use wf_run_histories::live::lived;
-use wf_run_histories::soak::soak;
+use wf_run_histories::soak::{SoakKind, soak};
 use wf_run_replay::capture::capture;
 use wf_run_replay::replay;
 use wf_run_scripts::session::session;
 use wf_run_scripts::uplink::uplink;
 
-/// Runs the soak of a seed and a number of calls, 1 to 1,000,000, of devices or not, and writes its summary.
+/// Runs the soak of a seed, a number of calls, 1 to 1,000,000, and a kind, and writes its summary.
 ///
 /// `Status::NoMemory` means that memory ran out, and `Status::WriteFault` that the sink failed.
 #[inline(never)]
-pub fn soaked<K: Sink>(alloc: Global, seed: u64, calls: u32, device: bool, sink: &mut K) -> Status
+pub fn soaked<K: Sink>(alloc: Global, seed: u64, calls: u32, kind: SoakKind, sink: &mut K) -> Status
     requires { (1 ≤ calls) × (calls ≤ 1000000) }
     ensures ends { CommandWrites K.held K.faults (λ status written.
-        SoakStatusSays status seed calls device written) sink.old sink.new result }
+        SoakStatusSays status seed calls kind written) sink.old sink.new result }
 {
-    let Ok(cell) = soak(alloc, seed, calls, device) else {
+    let Ok(cell) = soak(alloc, seed, calls, kind) else {
         return Status::NoMemory;
     };
     match summary(&cell, sink) {
@@ -51,10 +52,10 @@ pub fn soaked<K: Sink>(alloc: Global, seed: u64, calls: u32, device: bool, sink:
 
 /// Runs the command that the words ask for, on this source and sink.
 ///
-/// The commands are `replay`, `replay --pcap`, `soak SEED CALLS`, also with the word `device`,
-/// `live SEED SENDERS FRAMES`, `session`, `uplink` and `frames`. `help` and `help COMMAND`, or `--help` or `-h` anywhere, write the help, and
-/// `--version` writes the version. Only `live` creates threads and may wait; it calls the turnstile around
-/// each call at its gate.
+/// The commands are `replay`, `replay --pcap`, `soak SEED CALLS`, also with the word `device` or
+/// `agreements`, `live SEED SENDERS FRAMES`, `session`, `uplink` and `frames`. `help` and `help COMMAND`, or
+/// `--help` or `-h` anywhere, write the help, and `--version` writes the version. Only `live` creates threads
+/// and may wait; it calls the turnstile around each call at its gate.
 pub fn run<R: Threads + Wait + Sync, S: Source, K: Sink, T: Turnstile + Sync>(
     rt: &R,
     alloc: Global,
@@ -84,10 +85,10 @@ pub fn run<R: Threads + Wait + Sync, S: Source, K: Sink, T: Turnstile + Sync>(
         source.old source.new sink.old sink.new result }
 
     // the commands that do not read it
-    ensures soak { (seed calls : ℕ) (device : Bool) →
-        command_of (map string_bytes words.now) ≡ Some (Command.Soak seed calls device) →
+    ensures soak { (seed calls : ℕ) (kind : KindOfSoak) →
+        command_of (map string_bytes words.now) ≡ Some (Command.Soak seed calls kind) →
         (source.new ≡ source.old) × CommandWrites K.held K.faults
-        (λ status written. SoakStatusSays status seed calls device written) sink.old sink.new result }
+        (λ status written. SoakStatusSays status seed calls kind written) sink.old sink.new result }
     ensures live { (seed senders frames : ℕ) →
         command_of (map string_bytes words.now) ≡ Some (Command.Live seed senders frames) →
         (source.new ≡ source.old) × CommandWrites K.held K.faults
@@ -134,13 +135,7 @@ fn carry_out<R: Threads + Wait + Sync, S: Source, K: Sink, T: Turnstile + Sync>(
         None => Status::Usage,
         Some(Command::Replay) => replay(alloc, source, sink),
         Some(Command::Capture) => capture(alloc, source, sink),
-        Some(
-            Command::Soak {
-                seed,
-                calls,
-                device,
-            },
-        ) => soaked(alloc, seed, calls, device, sink),
+        Some(Command::Soak { seed, calls, kind }) => soaked(alloc, seed, calls, kind, sink),
         Some(
             Command::Live {
                 seed,

@@ -1,7 +1,7 @@
 -- Proves that an exchange that a reply names has begun by then. By cases of the call.
 use Rattle.std.proofs.Common.{◌≡◌, ℕ, ◌<◌, ◌≤◌, Bool, true, false, if◌then◌else◌, List, [], ◌∷◌, Option, Some, None, refl, sym, ◌∙◌, subst, arith}
 use Rattle.wf_frame.specs.declared.classes.Class.{Class}
-use Rattle.wf_frame.specs.declared.notes.Ask.TheVariants.{Join, Leave, Rate, Tick, Pull, Arrive, Answer, Done, Sleep, Wake, Poll, Rx, Reap, Ampdu, Stop, Start, Unsent, GiveUp, Flush, Offload, Weight}
+use Rattle.wf_frame.specs.declared.notes.Ask.TheVariants.{Join, Leave, Rate, Tick, Pull, Arrive, Answer, Done, Sleep, Wake, Poll, Rx, Reap, Ampdu, Stop, Start, Unsent, GiveUp, Flush, Offload, Weight, Plain, Hold, Begin, Free, Cease}
 use Rattle.wf_frame.specs.declared.notes.Limits.{Limits}
 use Rattle.wf_frame.specs.declared.notes.Note.{Note}
 use Rattle.wf_frame.specs.declared.notes.Note.TheVariants.{Enqueue, Asked}
@@ -9,11 +9,12 @@ use Rattle.wf_frame.specs.declared.notes.Refusal.{Refusal}
 use Rattle.wf_frame.specs.declared.notes.ReplyNote.{ReplyNote}
 use Rattle.wf_frame.specs.declared.notes.ReplyNote.TheVariants.{Send}
 use Rattle.wf_frame.specs.Classes.{all_classes}
+use Rattle.wf_def_agreement.specs.Receiver.{Score}
 use Rattle.wf_def_world.specs.World.{World, Exchange, exchange, with_bounds, with_station, on_station, with_rotation}
 use Rattle.wf_def_world.specs.CanSend.{with_listing_in, with_listings_in, with_listings_of}
 use Rattle.wf_def_world.specs.Exchanges.{Prepared, picked_station, after_pick, bounds_of, with_exchange_opened, without_credit}
 use Rattle.wf_def_world.specs.Refusals.{refusal}
-use Rattle.wf_def_world.specs.Step.{Outcome, join_outcome, leave_outcome, rate_outcome, tick_outcome, enqueue_outcome, send_outcome, pull_outcome_for, pull_outcome, arrive_outcome, answer_outcome, unsent_outcome, give_up_outcome, flush_outcome, done_outcome, outcome_where_open, sleep_outcome, wake_outcome, poll_outcome, rx_outcome, reap_outcome, outcome_of, concerned_station, judged_outcome, step, offload_outcome, weight_outcome}
+use Rattle.wf_def_world.specs.Step.{Outcome, join_outcome, leave_outcome, rate_outcome, tick_outcome, enqueue_outcome, send_outcome, pull_outcome_for, pull_outcome, arrive_outcome, answer_reply, answer_outcome, unsent_outcome, give_up_outcome, flush_outcome, done_outcome, outcome_where_open, sleep_outcome, wake_outcome, poll_outcome, rx_outcome, reap_outcome, outcome_of, concerned_station, judged_outcome, step, offload_outcome, weight_outcome, plain_outcome, hold_outcome, begin_outcome, free_outcome, cease_outcome}
 
 -- If a reply names the exchange that it begins, the number is below n.
 abbrev pub NamesBelow : ℕ → ReplyNote → Type 0
@@ -48,9 +49,13 @@ own_arrived : (w : World) (x : Exchange) (i : ℕ) → NamesOwn (arrive_outcome 
 unfolding arrive_outcome
 own_arrived w x i = tt
 
+own_shown : (plain : Bool) (n : ℕ) (b : Score) (wide : Bool) → NamesBelow n (answer_reply plain b wide)
+own_shown true n b wide = tt
+own_shown false n b wide = tt
+
 own_answered : (w : World) (x : Exchange) → NamesOwn (answer_outcome w x)
 unfolding answer_outcome
-own_answered w x = tt
+own_answered w x = own_shown x.plain _ _ _
 
 own_unsent : (w : World) (x : Exchange) (i : ℕ) → NamesOwn (unsent_outcome w x i)
 unfolding unsent_outcome
@@ -71,7 +76,8 @@ own_reaped (id ∷ ids) w = tt
 
 own_outcome : (note : Note) (w : World) → NamesOwn (outcome_of w note)
 unfolding outcome_of enqueue_outcome join_outcome leave_outcome rate_outcome tick_outcome sleep_outcome
-    wake_outcome poll_outcome rx_outcome flush_outcome offload_outcome weight_outcome
+    wake_outcome poll_outcome rx_outcome flush_outcome offload_outcome weight_outcome plain_outcome
+    hold_outcome begin_outcome free_outcome cease_outcome
 own_outcome (Enqueue s t flow len) w = tt
 own_outcome (Asked (Join s window start exponent weight)) w = tt
 own_outcome (Asked (Leave s)) w = tt
@@ -94,6 +100,11 @@ own_outcome (Asked (GiveUp e i)) w = own_open (exchange w e) w _ (λ x. own_give
 own_outcome (Asked (Flush s t)) w = tt
 own_outcome (Asked (Offload s exponent weight)) w = tt
 own_outcome (Asked (Weight s weight)) w = tt
+own_outcome (Asked (Plain s start exponent weight)) w = tt
+own_outcome (Asked (Hold s t)) w = tt
+own_outcome (Asked (Begin s t window)) w = tt
+own_outcome (Asked (Free s t)) w = tt
+own_outcome (Asked (Cease s t)) w = tt
 
 -- Listing a station begins no exchange.
 same_if : (b : Bool) (u w : World) → u.exchanges ≡ w.exchanges → (if b then u else w).exchanges ≡ w.exchanges

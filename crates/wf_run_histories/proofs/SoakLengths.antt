@@ -11,7 +11,8 @@ use Rattle.wf_frame.specs.declared.notes.Note.TheVariants.{Asked}
 use Rattle.wf_def_world.specs.Run.{Entry, by}
 use Rattle.wf_run_histories.specs.Stations.{standard_rate}
 use Rattle.wf_run_histories.specs.Lengths.{HasSoakLength, HaveSoakLengths}
-use Rattle.wf_run_histories.specs.Soak.{Soak, call, reply_to, stations_join, station_joins, frame_for, frame_put, word, drawn, air_used, sleeper_called, join_of, limits_in, device_call, device_called, missed, lets_arrive, transmission_sent, all_sent, some_arrive, after_answer_if, exchange_ended, exchange_played, sending, sending_played, class_in_round, after_pull, is_nothing, after_reaps, round_played, rounds_played, soak_begun, soak_history}
+use Rattle.wf_run_histories.specs.declared.soak.soaks.SoakKind.{SoakKind}
+use Rattle.wf_run_histories.specs.Soak.{Soak, call, reply_to, stations_join, station_joins, frame_for, frame_put, word, drawn, air_used, sleeper_called, has_devices, has_agreements, first_join, limits_in, device_call, device_called, agreement_call, agreement_called, missed, lets_arrive, transmission_sent, all_sent, some_arrive, after_answer_if, exchange_ended, exchange_played, sending, sending_played, class_in_round, after_pull, is_nothing, after_reaps, round_played, rounds_played, soak_begun, soak_history}
 
 -- The frames of the calls so far have such lengths.
 abbrev pub Keeps : Soak → Type 0
@@ -40,7 +41,7 @@ joined : (s n : ℕ) (k : Soak) → Keeps k → Keeps (stations_join s n k)
 unfolding stations_join
 joined s zero k before = before
 joined s (suc n) k before =
-    let join : Ask = join_of (k.device && (s % 2 == 1)) s (4080 + s) in
+    let join : Ask = first_join k.kind s in
     joined (suc s) n (station_joins s k) (asked (standard_rate s) (call (Asked join) k) (asked join k before))
 
 within : (station w : ℕ) → HasSoakLength (frame_for station w)
@@ -68,8 +69,9 @@ marked true w e i k before =
 
 transmitted : (e i : ℕ) (k : Soak) → Keeps k → Keeps (transmission_sent e i k)
 transmitted e i k before =
-    either_way (lets_arrive k) (call (Asked (Arrive e i)) (drawn k)) (missed k.device (word k) e i (drawn k))
-    (asked (Arrive e i) (drawn k) before) (marked k.device (word k) e i (drawn k) before)
+    either_way (lets_arrive k) (call (Asked (Arrive e i)) (drawn k))
+    (missed (has_devices k.kind) (word k) e i (drawn k))
+    (asked (Arrive e i) (drawn k) before) (marked (has_devices k.kind) (word k) e i (drawn k) before)
 
 sent : (e i n : ℕ) (k : Soak) → Keeps k → Keeps (all_sent e i n k)
 unfolding all_sent
@@ -94,14 +96,20 @@ followed (Some exchange) k before = played exchange.0 exchange.1 k before
 
 device : (k : Soak) → Keeps k → Keeps (device_called k)
 unfolding device_called
-device k before = either_way k.device (call (Asked (device_call (word k))) (drawn k)) k
+device k before = either_way (has_devices k.kind) (call (Asked (device_call (word k))) (drawn k)) k
     (asked (device_call (word k)) (drawn k) before) before
+
+agreement : (k : Soak) → Keeps k → Keeps (agreement_called k)
+unfolding agreement_called
+agreement k before = either_way (has_agreements k.kind) (call (Asked (agreement_call (word k))) (drawn k)) k
+    (asked (agreement_call (word k)) (drawn k) before) before
 
 pulled : (c : Class) (limits : Limits) (k : Soak) → Keeps k → Keeps (after_pull c limits k)
 unfolding after_pull
 pulled c limits k before =
-    followed (sending (reply_to (Asked (Pull c limits)) k)) (device_called (call (Asked (Pull c limits)) k))
-    (device (call (Asked (Pull c limits)) k) (asked (Pull c limits) k before))
+    let pull : Soak = call (Asked (Pull c limits)) k in
+    followed (sending (reply_to (Asked (Pull c limits)) k)) (agreement_called (device_called pull))
+    (agreement (device_called pull) (device pull (asked (Pull c limits) k before)))
 
 reaped : (n : ℕ) (k : Soak) → Keeps k → Keeps (after_reaps n k)
 unfolding after_reaps
@@ -126,8 +134,9 @@ round : (r : ℕ) (k : Soak) → Keeps k → Keeps (round_played r k)
 unfolding round_played
 round r k before =
     let air : Soak = air_used r (begun k) in
-    let pull : Soak = after_pull (class_in_round r) (limits_in k.device r) (sleeper_called r air) in
-    reaped pull.left pull (pulled (class_in_round r) (limits_in k.device r) (sleeper_called r air)
+    let limits : Limits = limits_in (has_devices k.kind) r in
+    let pull : Soak = after_pull (class_in_round r) limits (sleeper_called r air) in
+    reaped pull.left pull (pulled (class_in_round r) limits (sleeper_called r air)
     (slept r air (used r (begun k) (begins k before))))
 
 rounds : (n r : ℕ) (k : Soak) → Keeps k → Keeps (rounds_played n r k)
@@ -136,7 +145,7 @@ rounds zero r k before = before
 rounds (suc n) r k before = either_way (k.left == 0) k (rounds_played n (suc r) (round_played r k)) before
     (rounds n (suc r) (round_played r k) (round r k before))
 
-pub soak_lengths : (seed calls : ℕ) (device : Bool) → HaveSoakLengths (soak_history seed calls device)
+pub soak_lengths : (seed calls : ℕ) (kind : SoakKind) → HaveSoakLengths (soak_history seed calls kind)
 unfolding soak_history
-soak_lengths seed calls device = rounds calls 0 (stations_join 0 16 (soak_begun seed calls device))
-    (joined 0 16 (soak_begun seed calls device) tt)
+soak_lengths seed calls kind = rounds calls 0 (stations_join 0 16 (soak_begun seed calls kind))
+    (joined 0 16 (soak_begun seed calls kind) tt)

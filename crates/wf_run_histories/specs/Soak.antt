@@ -1,6 +1,7 @@
 -- Defines the soak: a long random history. A draw is the next 32-bit word of the PCG generator XSH RR 64/32
 -- with this seed and stream 0. The calls depend on the machine's replies, so the history is a function of the
--- seed and of the number of calls. A soak of devices draws the calls of drivers and of offloaded stations too.
+-- seed and of the number of calls. A soak of devices draws the calls of drivers and of offloaded stations
+-- too, and a soak of agreements also those of plain stations and of agreements.
 use Rattle.std.specs.Prelude.{◌≡◌, ◌≤◌, ℕ, zero, suc, ◌+◌, ◌-◌, ◌/◌, ◌%◌, ◌==◌, Bool, true, false, not, ◌&&◌, ◌||◌, List, [], ◌∷◌, ◌++◌, Option, Some, None, if◌then◌else◌, length}
 use Rattle.rand_pcg.specs.Lcg.{Lcg, started, increment_of}
 use Rattle.rand_pcg.specs.Pcg.{pcg32, multiplier_64}
@@ -9,12 +10,14 @@ use Rattle.wf_frame.specs.declared.classes.Class.{Class}
 use Rattle.wf_frame.specs.declared.classes.Class.TheVariants.{Bk, Be, Vi, Vo}
 use Rattle.wf_frame.specs.declared.notes.Limits.{Limits}
 use Rattle.wf_frame.specs.declared.notes.Ask.{Ask}
-use Rattle.wf_frame.specs.declared.notes.Ask.TheVariants.{Leave, Rate, Tick, Pull, Arrive, Answer, Done, Sleep, Wake, Poll, Rx, Reap, Ampdu, Stop, Start, Unsent, GiveUp, Flush, Offload, Weight}
+use Rattle.wf_frame.specs.declared.notes.Ask.TheVariants.{Leave, Rate, Tick, Pull, Arrive, Answer, Done, Sleep, Wake, Poll, Rx, Reap, Ampdu, Stop, Start, Unsent, GiveUp, Flush, Offload, Weight, Hold, Begin, Free, Cease}
+use Rattle.wf_frame.specs.declared.notes.Ask.TheVariants as ask
 use Rattle.wf_frame.specs.declared.notes.AskedRate.TheVariants.{Vht}
 use Rattle.wf_frame.specs.declared.notes.Note.{Note}
 use Rattle.wf_frame.specs.declared.notes.Note.TheVariants.{Enqueue, Asked}
 use Rattle.wf_frame.specs.declared.notes.Part.{Part}
 use Rattle.wf_frame.specs.declared.notes.Part.TheVariants.{Mpdus, Batch, Request}
+use Rattle.wf_frame.specs.declared.notes.Part.TheVariants as part
 use Rattle.wf_frame.specs.declared.notes.Refusal.TheVariants.{Nothing}
 use Rattle.wf_frame.specs.declared.notes.ReplyNote.{ReplyNote}
 use Rattle.wf_frame.specs.declared.notes.ReplyNote.TheVariants.{Send, Refused}
@@ -23,11 +26,23 @@ use Rattle.wf_def_world.specs.World.{World, opening}
 use Rattle.wf_def_world.specs.Step.{step}
 use Rattle.wf_def_world.specs.Run.{Entry, by, world_after}
 use Rattle.wf_run_histories.specs.Stations.{standard_join, standard_rate}
+use Rattle.wf_run_histories.specs.declared.soak.soaks.SoakKind.{SoakKind}
+use Rattle.wf_run_histories.specs.declared.soak.soaks.SoakKind.TheVariants.{Standard, Agreements}
 
--- A soak in progress: whether it is one of devices, the calls so far, the random words to come, and the number
--- of calls that are left.
+-- Whether a soak draws the calls of drivers and of offloaded stations.
+abbrev pub has_devices : SoakKind → Bool
+has_devices Standard = false
+has_devices _ = true
+
+-- Whether it also draws those of plain stations and of agreements.
+abbrev pub has_agreements : SoakKind → Bool
+has_agreements Agreements = true
+has_agreements _ = false
+
+-- A soak in progress: its kind, the calls so far, the random words to come, and the number of calls that are
+-- left.
 pub record Soak : Type 0 where
-  pub device : Bool
+  pub kind : SoakKind
   pub past : List Entry
   pub words : Lcg
   pub left : ℕ
@@ -60,10 +75,16 @@ reply_to note k = if k.left == 0 then None else Some (step (machine_of k) note).
 abbrev pub join_of : Bool → ℕ → ℕ → Ask
 join_of offloaded s start = if offloaded then Offload s 3 1 else standard_join s start
 
--- A station joins, and its rate is set. In a soak of devices the odd ones are offloaded.
+-- The first join of a station. In a soak of devices the odd ones are offloaded; in a soak of agreements half
+-- of the others are plain.
+abbrev pub first_join : SoakKind → ℕ → Ask
+first_join kind s =
+    if has_agreements kind && (s % 4 == 2) then ask.Plain s (4080 + s) 3 1
+    else join_of (has_devices kind && (s % 2 == 1)) s (4080 + s)
+
+-- A station joins, and its rate is set.
 abbrev pub station_joins : ℕ → Soak → Soak
-station_joins s k =
-    call (Asked (standard_rate s)) (call (Asked (join_of (k.device && (s % 2 == 1)) s (4080 + s))) k)
+station_joins s k = call (Asked (standard_rate s)) (call (Asked (first_join k.kind s)) k)
 
 -- n stations join, from station s on.
 unfoldable pub stations_join : ℕ → ℕ → Soak → Soak
@@ -104,7 +125,8 @@ missed true w e i k =
 
 abbrev pub transmission_sent : ℕ → ℕ → Soak → Soak
 transmission_sent e i k =
-    if lets_arrive k then call (Asked (Arrive e i)) (drawn k) else missed k.device (word k) e i (drawn k)
+    if lets_arrive k then call (Asked (Arrive e i)) (drawn k)
+    else missed (has_devices k.kind) (word k) e i (drawn k)
 
 -- n transmissions, from index i on, and whether one of them arrived.
 unfoldable pub all_sent : ℕ → ℕ → ℕ → Soak → Soak
@@ -125,6 +147,7 @@ exchange_ended answered e k = call (Asked (Done e (answered && not (word k % 20 
 abbrev pub transmissions_in : Part → ℕ
 transmissions_in (Mpdus pairs) = length pairs
 transmissions_in (Batch ids) = length ids
+transmissions_in (part.Plain pairs) = length pairs
 transmissions_in (Request start) = 1
 
 unfoldable pub exchange_played : ℕ → ℕ → Soak → Soak
@@ -169,12 +192,27 @@ device_call w =
 
 -- In a soak of devices each pull is followed by such a call, before its exchange is played.
 unfoldable pub device_called : Soak → Soak
-device_called k = if k.device then call (Asked (device_call (word k))) (drawn k) else k
+device_called k = if has_devices k.kind then call (Asked (device_call (word k))) (drawn k) else k
+
+-- The call for the agreement of a TID that a word determines, by the table of these calls.
+abbrev pub agreement_calls : ℕ → ℕ → ℕ → List Ask
+agreement_calls s t w =
+    Hold s t ∷ Hold s t ∷ Begin s t (1 + w % 256) ∷ Begin s t (1 + w % 256) ∷ Free s t ∷ Cease s t ∷ Cease s t
+    ∷ []
+
+unfoldable pub agreement_call : ℕ → Ask
+agreement_call w =
+    at (ask.Plain ((w / 8) % 16) ((w / 1024) % 4096) 3 1)
+    (agreement_calls ((w / 8) % 16) ((w / 128) % 8) (w / 1024)) (w % 8)
+
+-- In a soak of agreements such a call follows too.
+unfoldable pub agreement_called : Soak → Soak
+agreement_called k = if has_agreements k.kind then call (Asked (agreement_call (word k))) (drawn k) else k
 
 unfoldable pub after_pull : Class → Limits → Soak → Soak
 after_pull c limits k =
     sending_played (sending (reply_to (Asked (Pull c limits)) k))
-    (device_called (call (Asked (Pull c limits)) k))
+    (agreement_called (device_called (call (Asked (Pull c limits)) k)))
 
 -- Reaps until no finished frame or no call is left, at most n times.
 abbrev pub is_nothing : Option ReplyNote → Bool
@@ -191,7 +229,7 @@ after_all_reaps k = after_reaps k.left k
 
 unfoldable pub round_played : ℕ → Soak → Soak
 round_played r k =
-    after_all_reaps (after_pull (class_in_round r) (limits_in k.device r)
+    after_all_reaps (after_pull (class_in_round r) (limits_in (has_devices k.kind) r)
     (sleeper_called r (air_used r (call (Asked (Tick 1000))
     (frame_put (frame_put (frame_put (frame_put k))))))))
 
@@ -200,9 +238,9 @@ unfoldable pub rounds_played : ℕ → ℕ → Soak → Soak
 rounds_played zero r k = k
 rounds_played (suc n) r k = if k.left == 0 then k else rounds_played n (suc r) (round_played r k)
 
-abbrev pub soak_begun : ℕ → ℕ → Bool → Soak
-soak_begun seed calls device = record {
-  device = device;
+abbrev pub soak_begun : ℕ → ℕ → SoakKind → Soak
+soak_begun seed calls kind = record {
+  kind = kind;
   past =
       [];
   words = started 64 multiplier_64 seed (increment_of 64 0);
@@ -210,7 +248,7 @@ soak_begun seed calls device = record {
       calls;
 }
 
--- The history of a seed and a number of calls, of devices or not.
-unfoldable pub soak_history : ℕ → ℕ → Bool → List Entry
-soak_history seed calls device =
-    (rounds_played calls 0 (stations_join 0 16 (soak_begun seed calls device))).past
+-- The history of a seed and a number of calls, of this kind.
+unfoldable pub soak_history : ℕ → ℕ → SoakKind → List Entry
+soak_history seed calls kind =
+    (rounds_played calls 0 (stations_join 0 16 (soak_begun seed calls kind))).past

@@ -11,7 +11,7 @@ use Rattle.wf_frame.specs.declared.notes.Ask.TheVariants.{Tick, Pull, Arrive, An
 use Rattle.wf_frame.specs.declared.notes.Note.{Note}
 use Rattle.wf_frame.specs.declared.notes.Note.TheVariants.{Enqueue, Asked}
 use Rattle.wf_frame.specs.declared.notes.Part.{Part}
-use Rattle.wf_frame.specs.declared.notes.Part.TheVariants.{Mpdus, Batch, Request}
+use Rattle.wf_frame.specs.declared.notes.Part.TheVariants.{Mpdus, Batch, Plain, Request}
 use Rattle.wf_frame.specs.declared.notes.Refusal.TheVariants.{Idle, Nothing}
 use Rattle.wf_frame.specs.declared.notes.ReplyNote.{ReplyNote}
 use Rattle.wf_frame.specs.declared.notes.ReplyNote.TheVariants.{Now, Send, Refused}
@@ -85,6 +85,7 @@ calls_left e some indices = map (λ i. Asked (Arrive e i)) indices ++ last_calls
 abbrev pub transmissions_in : Part → ℕ
 transmissions_in (Mpdus pairs) = length pairs
 transmissions_in (Batch ids) = length ids
+transmissions_in (Plain pairs) = length pairs
 transmissions_in (Request start) = 1
 
 -- The phase of a driver. It ticks by 0 to read the clock; it pulls its class, and knows the clock that was

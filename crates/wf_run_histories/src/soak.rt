@@ -6,4 +6,4 @@
 mod soaks;
 pub mod workers;
 
-pub use soaks::soak;
+pub use soaks::{SoakKind, soak};

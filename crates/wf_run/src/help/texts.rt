@@ -10,7 +10,7 @@ pub const USAGE: &str = "usage: wf replay [--pcap] < TRACE
        wf frames < CAPTURE
        wf session < SCRIPT
        wf uplink < SCRIPT
-       wf soak SEED CALLS [device]
+       wf soak SEED CALLS [device | agreements]
        wf live SEED SENDERS FRAMES
        wf help [COMMAND]
        wf --version
@@ -78,6 +78,11 @@ A trace is a head, then calls, then the line end:
   flush S TID
   offload S X [G]                 S, 0..65535; X, 0..255; G, 0..255
   weight S G                      S, 0..65535; G, 0..255
+  plain S START X [G]             S, 0..65535; START, 0..65535; X, 0..255; G, 0..255
+  hold S TID                      S, 0..65535; TID, 0..255
+  begin S TID W                   S, 0..65535; TID, 0..255; W, 0..65535
+  free S TID                      S, 0..65535; TID, 0..255
+  cease S TID                     S, 0..65535; TID, 0..255
   end
 
 Settings: stations=1..256 flows=1..4096 limit=1..65535 room=1..131072 flow_quantum=64..65535
@@ -96,11 +101,13 @@ docs/TRACE.md describes traces, docs/MACHINE.md the calls, and docs/CAPTURES.md 
 ";
 
 /// The help on `soak`.
-pub const SOAK: &[u8] = b"wf soak SEED CALLS [device]
+pub const SOAK: &[u8] = b"wf soak SEED CALLS [device | agreements]
 
 Reads nothing. Runs a random history of CALLS calls, and writes its summary. The same words
 always give the same history. With the word device, some stations are offloaded, pulls have
 limits, transmissions get marks, and stations leave, join, stop, start and change weights.
+With the word agreements, some stations also join without agreements, and agreements begin
+and end.
 
   SEED     0..18446744073709551615
   CALLS    1..1000000

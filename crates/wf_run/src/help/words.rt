@@ -6,6 +6,7 @@ ghost use Rattle.wf_run.specs.Commands.{number_within, soak_of, live_of, asks_he
 
 use crate::help::Topic;
 use wf_io::value_of;
+use wf_run_histories::soak::SoakKind;
 use wf_trace::is_plain_number;
 
 /// A command, as the words of the command line ask for it.
@@ -15,11 +16,11 @@ pub enum Command {
     Replay,
     /// Replay the trace on standard input, and write a capture file.
     Capture,
-    /// Run the soak of this seed with `calls` calls, 1 to 1,000,000, of devices or not.
+    /// Run the soak of this seed and kind with `calls` calls, 1 to 1,000,000.
     Soak {
         seed: u64,
         calls: u32,
-        device: bool,
+        kind: SoakKind,
     },
     /// Run `senders` senders, 1 to 8, each with `frames` frames, 1 to 10,000, and four drivers on threads.
     Live {
@@ -61,16 +62,16 @@ fn number_within(low: u64, high: u64, word: &[u8]) -> Option<u64>
 }
 
 #[tactic(auto, unfolding(crate::specs::Commands::soak_of))]
-fn soak_of(seed: Option<u64>, calls: Option<u64>, device: bool) -> Option<Command>
+fn soak_of(seed: Option<u64>, calls: Option<u64>, kind: SoakKind) -> Option<Command>
     requires { IfSome calls (λ n. (1 ≤ n) × (n ≤ 1000000)) }
-    ensures command { result ≡ soak_of seed calls device }
+    ensures command { result ≡ soak_of seed calls kind }
     ensures calls { IfSome result HasCallsInRange }
 {
     match (seed, calls) {
         (Some(seed), Some(calls)) => Some(Command::Soak {
             seed,
             calls: calls as u32,
-            device,
+            kind,
         }),
         _ => None,
     }
@@ -159,7 +160,7 @@ fn played_command_from(words: &[String]) -> Option<Command>
             word.as_bytes(),
             seed.as_bytes(),
             calls.as_bytes(),
-            false,
+            SoakKind::Standard,
         ),
         [word, one, two, three] => four_words_command(
             word.as_bytes(),
@@ -209,17 +210,17 @@ fn two_words_command(word: &[u8], option: &[u8]) -> Option<Command>
     }
 }
 
-// Returns the command of three words, and of these and the word `device`.
+// Returns the command of three words, and of these and the word for a kind of soak.
 #[tactic(auto, unfolding(crate::specs::Commands::soak_command))]
-fn soak_command(word: &[u8], seed: &[u8], calls: &[u8], device: bool) -> Option<Command>
-    ensures command { result ≡ soak_command word.now seed.now calls.now device }
+fn soak_command(word: &[u8], seed: &[u8], calls: &[u8], kind: SoakKind) -> Option<Command>
+    ensures command { result ≡ soak_command word.now seed.now calls.now kind }
     ensures calls { IfSome result HasCallsInRange }
 {
     if word == b"soak".as_slice() {
         soak_of(
             number_within(0, u64::MAX, seed),
             number_within(1, 1_000_000, calls),
-            device,
+            kind,
         )
     } else {
         None
@@ -233,13 +234,15 @@ fn four_words_command(word: &[u8], one: &[u8], two: &[u8], three: &[u8]) -> Opti
     ensures calls { IfSome result HasCallsInRange }
 {
     if three == b"device".as_slice() {
-        soak_command(word, one, two, true)
+        soak_command(word, one, two, SoakKind::Devices)
+    } else if three == b"agreements".as_slice() {
+        soak_command(word, one, two, SoakKind::Agreements)
     } else {
         live_command(word, one, two, three)
     }
 }
 
-// Returns the command of four words, of which the last is not `device`.
+// Returns the command of four words, of which the last is not the word for a kind of soak.
 #[tactic(auto, unfolding(crate::specs::Commands::live_command))]
 fn live_command(word: &[u8], seed: &[u8], senders: &[u8], frames: &[u8]) -> Option<Command>
     ensures command { result ≡ live_command word.now seed.now senders.now frames.now }

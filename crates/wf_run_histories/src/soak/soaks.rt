@@ -3,12 +3,12 @@
 ghost use Rattle.std.specs.Prelude.{◌≡◌, ◌-◌, ◌%◌, ◌≤◌, ◌<◌, false, IfOk, OnOk, Some, None, length, if◌then◌else◌};
 ghost use Rattle.wf_frame.specs.Answers.{reply_of};
 ghost use Rattle.wf_frame.specs.Settings.{standard};
-ghost use Rattle.wf_frame.specs.declared.notes.Ask.TheVariants.{Pull, Rate, Reap};
+ghost use Rattle.wf_frame.specs.declared.notes.Ask.TheVariants.{Plain, Pull, Rate, Reap};
 ghost use Rattle.wf_frame.specs.declared.notes.AskedRate.TheVariants.{Vht};
 ghost use Rattle.wf_frame.specs.declared.notes.Note.TheVariants.{Asked};
 ghost use Rattle.wf_path.specs.Jobs.{note_of};
 ghost use Rattle.wf_run_histories.specs.Lengths.{HaveSoakLengths};
-ghost use Rattle.wf_run_histories.specs.Soak.{IsLater, frame_for, soak_begun, call, reply_to, stations_join, station_joins, frame_put, air_used, sleeper_called, transmission_sent, lets_arrive, missed, all_sent, some_arrive, exchange_ended, after_answer_if, exchange_played, sending, sending_played, class_in_round, join_of, limit_if, limits_in, device_call, device_called, after_pull, after_all_reaps, round_played, rounds_played, soak_history, drawn, word, is_nothing};
+ghost use Rattle.wf_run_histories.specs.Soak.{IsLater, frame_for, soak_begun, call, reply_to, stations_join, station_joins, frame_put, air_used, sleeper_called, transmission_sent, lets_arrive, missed, all_sent, some_arrive, exchange_ended, after_answer_if, exchange_played, sending, sending_played, class_in_round, has_agreements, has_devices, join_of, first_join, limit_if, limits_in, device_call, device_called, agreement_call, agreement_called, after_pull, after_all_reaps, round_played, rounds_played, soak_history, drawn, word, is_nothing};
 
 use crate::soak::workers::{standard_join, standard_rate};
 use rand_core::utils::NextWord;
@@ -19,12 +19,39 @@ use wf_cell::{Cell, Job};
 use wf_frame::{Answer, Ask, AskedRate, Brief, Class, Config, Frame, Limits, Refusal};
 use wf_queue_parts::chain::Parcel;
 
-/// A soak in progress: whether it is one of devices, the cell with the calls so far, the generator of random
-/// words, and the number of calls that are left.
+/// Which calls a soak draws.
+#[derive(Clone, Copy)]
+pub enum SoakKind {
+    /// Those of drivers that have block acknowledgement agreements on all TIDs.
+    Standard,
+    /// Also those of offloaded stations, limits of pulls, marks of transmissions and flushes.
+    Devices,
+    /// Also those of plain stations and of agreements that begin and end.
+    Agreements,
+}
+
+impl SoakKind {
+    /// Returns whether a soak has the calls of offloaded stations.
+    fn has_devices(self) -> bool
+        ensures { result ≡ has_devices self }
+    {
+        !matches!(self, SoakKind::Standard)
+    }
+
+    /// Returns whether a soak has the calls of agreements.
+    fn has_agreements(self) -> bool
+        ensures { result ≡ has_agreements self }
+    {
+        matches!(self, SoakKind::Agreements)
+    }
+}
+
+/// A soak in progress: its kind, the cell with the calls so far, the generator of random words, and the
+/// number of calls that are left.
 #[derive(Drop)]
 struct SoakRun {
     alloc: Global,
-    device: bool,
+    kind: SoakKind,
     cell: Cell,
     words: Lcg64Xsh32,
     left: u32,
@@ -38,7 +65,7 @@ impl Model for SoakRun {
     ghost Value = { Soak };
 
     ghost view = { λ k. record {
-      device = k.device;
+      kind = k.kind;
       past = k.cell.past.history;
       words = k.words;
       left = k.left;
@@ -50,18 +77,19 @@ impl Model for SoakRun {
 
 /// Returns the cell after the soak of a seed and a number of calls, 1 to 1,000,000: the standard settings,
 /// sixteen stations, and rounds of enqueues, pulls, losses and reaps until that number of calls was made.
-/// A soak of devices (`device`) has offloaded stations, limits of pulls and marks of transmissions, and each of
-/// its pulls is followed by a call for a station and its device. Fails only if memory runs out.
+/// A soak of devices has offloaded stations, limits of pulls and marks of transmissions, and each of its
+/// pulls is followed by a call for a station and its device. A soak of agreements also has plain stations,
+/// and a call for the agreement of a TID follows that call. Fails only if memory runs out.
 #[inline(never)]
 #[tactic(auto, unfolding(crate::specs::Soak::soak_history), using(crate::proofs::SoakLengths::soak_lengths))]
-pub fn soak(alloc: Global, seed: u64, calls: u32, device: bool) -> Result<Cell, AllocError>
+pub fn soak(alloc: Global, seed: u64, calls: u32, kind: SoakKind) -> Result<Cell, AllocError>
     requires { (1 ≤ calls) × (calls ≤ 1000000) }
     ensures made { IfOk result
-        (λ c. c.past ≡ record { config = standard; history = soak_history seed calls device }) }
-    ensures counted { IfOk result (λ c. length (soak_history seed calls device) ≡ calls) }
-    ensures lengths { HaveSoakLengths (soak_history seed calls device) }
+        (λ c. c.past ≡ record { config = standard; history = soak_history seed calls kind }) }
+    ensures counted { IfOk result (λ c. length (soak_history seed calls kind) ≡ calls) }
+    ensures lengths { HaveSoakLengths (soak_history seed calls kind) }
 {
-    let mut soak = SoakRun::new(alloc, seed, calls, device)?;
+    let mut soak = SoakRun::new(alloc, seed, calls, kind)?;
     let mut answer = Answer::new();
     soak.stations_join(&mut answer);
     soak.rounds_played(calls, &mut answer)?;
@@ -70,14 +98,14 @@ pub fn soak(alloc: Global, seed: u64, calls: u32, device: bool) -> Result<Cell, 
 
 impl SoakRun {
     #[inline(never)]
-    fn new(alloc: Global, seed: u64, calls: u32, device: bool) -> Result<SoakRun, AllocError>
+    fn new(alloc: Global, seed: u64, calls: u32, kind: SoakKind) -> Result<SoakRun, AllocError>
         requires { calls ≤ 1000000 }
-        ensures { IfOk result (λ k. k ≡ soak_begun seed calls device) }
+        ensures { IfOk result (λ k. k ≡ soak_begun seed calls kind) }
     {
         let cell = Cell::of(alloc, Config::standard())?;
         Ok(SoakRun {
             alloc,
-            device,
+            kind,
             cell,
             words: Lcg64Xsh32::new(seed, 0),
             left: calls,
@@ -124,8 +152,7 @@ impl SoakRun {
         ensures made { self.new ≡ station_joins station self.old }
         ensures later { IsLater self.old self.new }
     {
-        let offloaded = self.device && station % 2 == 1;
-        self.ask(join_of(offloaded, station, 4080 + station), answer);
+        self.ask(first_join(self.kind, station), answer);
         self.ask(standard_rate(station), answer);
     }
 
@@ -190,13 +217,13 @@ impl SoakRun {
         }
     }
 
-    /// Marks a transmission that does not arrive, in a soak of devices: one of three never went on the air, and
-    /// one of three is given up.
+    /// Marks a transmission that does not arrive, in a soak of devices: one of three never went on the air,
+    /// and one of three is given up.
     fn missed(&mut self, word: u32, exchange: u64, index: u16, answer: &mut Answer)
-        ensures made { self.new ≡ missed self.old.device word exchange index self.old }
+        ensures made { self.new ≡ missed (has_devices self.old.kind) word exchange index self.old }
         ensures later { IsLater self.old self.new }
     {
-        if !self.device {
+        if !self.kind.has_devices() {
             return;
         }
         match word / 10 % 3 {
@@ -305,9 +332,21 @@ impl SoakRun {
         ensures made { self.new ≡ device_called self.old }
         ensures later { IsLater self.old self.new }
     {
-        if self.device {
+        if self.kind.has_devices() {
             let word = self.draw();
             self.ask(device_call(word), answer);
+        }
+    }
+
+    /// In a soak of agreements, makes the call for the agreement of a TID that the next word determines.
+    #[tactic(auto, unfolding(crate::specs::Soak::agreement_called))]
+    fn agreement_called(&mut self, answer: &mut Answer)
+        ensures made { self.new ≡ agreement_called self.old }
+        ensures later { IsLater self.old self.new }
+    {
+        if self.kind.has_agreements() {
+            let word = self.draw();
+            self.ask(agreement_call(word), answer);
         }
     }
 
@@ -319,6 +358,7 @@ impl SoakRun {
     {
         let sending = self.pull(class, limits, answer);
         self.device_called(answer);
+        self.agreement_called(answer);
         self.sending_played(sending, answer);
     }
 
@@ -350,7 +390,7 @@ impl SoakRun {
         ensures later { OnOk result (IsLater self.old self.new) }
         ensures left { OnOk result (self.new.left ≤ self.old.left - 1) }
     {
-        let limits = limits_in(self.device, round);
+        let limits = limits_in(self.kind.has_devices(), round);
         self.frame_put(answer)?;
         self.frame_put(answer)?;
         self.frame_put(answer)?;
@@ -419,6 +459,52 @@ fn join_of(offloaded: bool, station: u16, start: u16) -> Ask
         }
     } else {
         standard_join(station, start)
+    }
+}
+
+/// Returns the first join of a station.
+fn first_join(kind: SoakKind, station: u16) -> Ask
+    requires { station < 16 }
+    ensures { result ≡ first_join kind station }
+{
+    let start = 4080 + station;
+    if kind.has_agreements() && station % 4 == 2 {
+        plain_join(station, start)
+    } else {
+        join_of(kind.has_devices() && station % 2 == 1, station, start)
+    }
+}
+
+/// Returns the join of a plain station with this first number.
+fn plain_join(station: u16, start: u16) -> Ask
+    ensures { result ≡ Plain station start 3 1 }
+{
+    Ask::Plain {
+        station,
+        start,
+        exponent: 3,
+        weight: 1,
+    }
+}
+
+/// Returns the call for the agreement of a TID that a word determines.
+#[tactic(auto, unfolding(crate::specs::Soak::agreement_call))]
+fn agreement_call(word: u32) -> Ask
+    ensures { result ≡ agreement_call word }
+{
+    let station = (word / 8 % 16) as u16;
+    let tid = (word / 128 % 8) as u8;
+    let rest = word / 1024;
+    match word % 8 {
+        0 | 1 => Ask::Hold { station, tid },
+        2 | 3 => Ask::Begin {
+            station,
+            tid,
+            window: (1 + rest % 256) as u16,
+        },
+        4 => Ask::Free { station, tid },
+        5 | 6 => Ask::Cease { station, tid },
+        _ => plain_join(station, (rest % 4096) as u16),
     }
 }
 

@@ -37,7 +37,7 @@ returns-clause-made c =
     let room : 0 < calls_left_in p = has_room p c.self.inside.left c.self.invariant.0 c.self.invariant.1
     some in
     ap (λ (x : Past). record {
-      device = c.self.inside.device;
+      kind = c.self.inside.kind;
       past = x.history;
       words = c.self.inside.words;
       left = c.self.inside.left - 1;
