@@ -99,7 +99,7 @@ extern "C" {
 /* The values that functions of type int32_t return, except wf_path_live, wf_path_can_pull, wf_path_listed and
  * wf_path_has_small_counts. 0 means success. Any other code says why nothing has changed: neither what the
  * handle holds, nor the caller's structs and buffers. There are these exceptions:
- * - `reply` shows the refusal, if the code is 1 to 32, unless the comment of the function says that it is
+ * - `reply` shows the refusal, if the code is 1 to 38, unless the comment of the function says that it is
  *   unchanged;
  * - after a code of wf_path_burst or wf_cell_burst the first `made` calls are made;
  * - WF_FULL, WF_AHEAD and WF_IDLE set the count of `frames` of wf_path_pull and wf_path_pull_limited to 0;
@@ -155,6 +155,12 @@ enum wf_code {
   WF_STARTED = 31,      /* the station is not stopped */
   WF_MARKED = 32,       /* that transmission has a mark: it never went on the air, or the device
                          * will not try it again */
+  WF_OFFLOADED = 33,    /* the device of the station makes its agreements */
+  WF_AGREED = 34,       /* the TID has an agreement */
+  WF_TID_HELD = 35,     /* the TID is held already */
+  WF_NOT_HELD = 36,     /* the TID is not held */
+  WF_NOT_AGREED = 37,   /* the TID has no agreement */
+  WF_WAITS = 38,        /* `count` sequence numbers of the TID wait to be sent */
   /* end refusals */
   /* other codes */
   WF_NO_MEMORY = 40,    /* out of memory */
@@ -165,6 +171,7 @@ enum wf_code {
   WF_BAD_ADDRESS = 44,  /* the address is a group address: the lowest bit of its first octet is set */
   WF_NO_BODY = 45,      /* the frame has no octets: write its header (wf_path_header), and send the
                          * body from its owner's buffer */
+  WF_BAD_AID = 46,      /* the association identifier is 0 or above 2007 */
   WF_BAD_CLASS = 47,    /* the class is above 3 */
   WF_BAD_OUTCOME = 48,  /* an outcome is above 3 (enum wf_outcome) */
   WF_IN_USE = 49,       /* the handle holds something already */
@@ -199,7 +206,8 @@ enum wf_fate {
   WF_RETRIES = 4,   /* dropped after its last transmission: it was sent `attempts` times or given
                      * up, and never acknowledged */
   WF_LEFT = 5,      /* dropped when its station left */
-  WF_FLUSHED = 6    /* dropped when its TID was flushed */
+  WF_FLUSHED = 6,   /* dropped when its TID was flushed */
+  WF_ENDED = 7      /* dropped when the agreement of its TID ended */
   /* end fates */
 };
 
@@ -219,7 +227,7 @@ enum wf_kind {
   WF_KIND_SET = 2,       /* the rate, the greatest aggregate or the weight is set */
   WF_KIND_NOW = 3,       /* now */
   WF_KIND_ACCEPTED = 4,  /* id; dropped, if has_dropped is 1 */
-  WF_KIND_SEND = 5,      /* exchange, station, tid, air, more, batch; start, if request is 1 */
+  WF_KIND_SEND = 5,      /* exchange, station, tid, air, more, batch, plain; start, if request is 1 */
   WF_KIND_RELEASED = 6,  /* only from a cell: wf_cell_released writes the frames */
   WF_KIND_BA = 7,        /* only from a cell: wf_cell_block writes the BlockAck */
   WF_KIND_DONE = 8,      /* acked, waiting, failed */
@@ -232,13 +240,21 @@ enum wf_kind {
   WF_KIND_STOPPED = 15,
   WF_KIND_STARTED = 16,
   WF_KIND_MARKED = 17,   /* the transmission is marked as unsent or as given up */
-  WF_KIND_FLUSHED = 18   /* count: the number of frames that were dropped */
+  WF_KIND_FLUSHED = 18,  /* count: the number of frames that were dropped */
+  WF_KIND_ACK = 19,      /* only from a cell: the station answered a plain exchange with an Ack */
+  WF_KIND_HELD = 20,     /* start: the number with which an agreement may begin */
+  WF_KIND_BEGUN = 21,    /* the agreement has begun */
+  WF_KIND_FREED = 22,    /* the TID sends its frames one at a time */
+  WF_KIND_CEASED = 23    /* count: the number of frames that were dropped; from a cell
+                          * wf_cell_released writes the frames that the station passed up */
 };
 
 /* The calls of a cell, each with the fields of `struct wf_call` that have a meaning. The other fields are 0
  * in an entry that is read, and are ignored in a call that is made. A call has the number of its answer,
  * except that WF_CALL_AMPDU and WF_CALL_WEIGHT are answered with WF_KIND_SET, WF_CALL_GIVEUP with
- * WF_KIND_MARKED, WF_CALL_FLUSH with WF_KIND_FLUSHED, and WF_CALL_OFFLOAD with WF_KIND_JOINED. */
+ * WF_KIND_MARKED, WF_CALL_FLUSH with WF_KIND_FLUSHED, WF_CALL_OFFLOAD and WF_CALL_PLAIN with WF_KIND_JOINED,
+ * WF_CALL_HOLD with WF_KIND_HELD, WF_CALL_BEGIN with WF_KIND_BEGUN, WF_CALL_FREE with WF_KIND_FREED, and
+ * WF_CALL_CEASE with WF_KIND_CEASED. WF_CALL_ANSWER of a plain exchange is answered with WF_KIND_ACK. */
 enum wf_call_kind {
   /* begin calls: tools/tables writes these lines; the comments stay */
   WF_CALL_JOIN = 0,     /* station, window, start, exponent, weight */
@@ -263,7 +279,12 @@ enum wf_call_kind {
   WF_CALL_GIVEUP = 18,  /* exchange, index */
   WF_CALL_FLUSH = 19,   /* station, tid */
   WF_CALL_OFFLOAD = 20, /* station, exponent, weight */
-  WF_CALL_WEIGHT = 21   /* station, weight */
+  WF_CALL_WEIGHT = 21,  /* station, weight */
+  WF_CALL_PLAIN = 22,   /* station, start, exponent, weight */
+  WF_CALL_HOLD = 23,    /* station, tid */
+  WF_CALL_BEGIN = 24,   /* station, tid, window */
+  WF_CALL_FREE = 25,    /* station, tid */
+  WF_CALL_CEASE = 26    /* station, tid */
   /* end calls */
 };
 
@@ -332,14 +353,16 @@ struct wf_reply {
   uint64_t now;         /* the clock */
   int64_t deficit;      /* the deficit after the charge; after WF_DEBT the one that stays */
   uint32_t air;         /* the airtime of the exchange; after WF_AHEAD the airtime in flight */
-  uint32_t count;       /* frames that a leave or a flush dropped, or the `count` of a refusal */
+  uint32_t count;       /* frames that a leave, a flush or the end of an agreement dropped, or the `count`
+                         * of a refusal */
   uint16_t station;     /* the station to send to */
-  uint16_t start;       /* the start of the BlockAckReq: 0 to 4095 */
+  uint16_t start;       /* the start of the BlockAckReq, or the number with which an agreement may begin:
+                         * 0 to 4095 */
   uint16_t acked;       /* frames of the exchange that are acknowledged */
   uint16_t waiting;     /* frames of the exchange that wait to be sent again */
   uint16_t failed;      /* frames of the exchange that are dropped */
   uint8_t kind;         /* enum wf_kind */
-  uint8_t refusal;      /* enum wf_code, 0 to 32: what the function returned */
+  uint8_t refusal;      /* enum wf_code, 0 to 38: what the function returned */
   uint8_t tid;          /* the TID to send for */
   uint8_t class_;       /* enum wf_class: the class of the credit */
   uint8_t fate;         /* enum wf_fate */
@@ -347,9 +370,11 @@ struct wf_reply {
   uint8_t request;      /* 1 if the exchange is a BlockAckReq, else 0 */
   uint8_t more;         /* 1 if the station has more to be sent (the More Data bit), else 0 */
   uint8_t batch;        /* 1 if the frames are for a device that numbers them (wf_path_join_offload), else 0 */
+  uint8_t plain;        /* 1 if the exchange is one frame without an agreement, which an Ack answers
+                         * (wf_path_plain), else 0 */
 };
 
-/* The frames of an aggregate: the first `count` ids and sequence numbers (0 to 4095). Those of a batch have no
+/* The frames of an exchange: the first `count` ids and sequence numbers (0 to 4095). Those of a batch have no
  * sequence numbers: these are 0. The entries after them have no meaning: no contract says what a function
  * leaves there. */
 struct wf_frames {
@@ -410,6 +435,7 @@ struct wf_tally {
   uint64_t retries;   /* dropped after their last transmission */
   uint64_t left;      /* dropped because their station left */
   uint64_t flushed;   /* dropped by wf_path_flush */
+  uint64_t ended;     /* dropped by wf_path_cease */
 };
 
 /* A station's airtime in a class since its join, in microseconds. */
@@ -523,10 +549,9 @@ void wf_path_free(struct wf_path *path);
  * each, in the order of the air. At first they are placeholders: 02:00:00:00:00:00 for the access point, and
  * 02:00:00:01:hh:ll for a station, with the two octets of its number. A transmission goes from the access
  * point's address to that of the exchange's station, and a BlockAck has to go from the second to the first; a
- * function uses the addresses that the path has when it is called. No other call changes an address: a
- * station number keeps its address when its station leaves and another one joins. The caller has to make sure
- * that no two live stations have the same address, and that none has the access point's. A cell always has
- * the placeholders. */
+ * function uses the addresses that the path has when it is called. A join or a leave changes no address and no
+ * association identifier: they belong to the station number. The caller has to make sure that no two live
+ * stations have the same address, and that none has the access point's. A cell always has the placeholders. */
 
 /* Sets the access point's address. Returns WF_OK; or WF_BAD_ADDRESS exactly if it is a group address, and
  * then nothing has changed. */
@@ -535,6 +560,20 @@ int32_t wf_path_set_base(struct wf_path *path, const uint8_t address[6]);
 /* Sets the address of a station, live or not. Returns WF_OK; WF_BAD_STATION if the station number does not
  * exist; or else WF_BAD_ADDRESS exactly if it is a group address. After an error nothing has changed. */
 int32_t wf_path_set_address(struct wf_path *path, uint16_t station, const uint8_t address[6]);
+
+/* Sets the access point's address (BSSID) for one station, live or not: a device with several BSSs has one
+ * path, because they share the air. Frames to and from the station then have this address instead of that of
+ * wf_path_set_base, also after a later call of wf_path_set_base. Returns WF_OK; WF_BAD_STATION if the station
+ * number does not exist; or else WF_BAD_ADDRESS exactly if it is a group address. After an error nothing has
+ * changed. */
+int32_t wf_path_set_bss(struct wf_path *path, uint16_t station, const uint8_t address[6]);
+
+/* Sets the association identifier (AID; IEEE 802.11-2012, 8.4.1.8) of a station, live or not: 1 to 2007, at
+ * first the station number plus 1. The TIM shows the AIDs of stations that have traffic. Give each live
+ * station of a BSS its own AID: if two share one, the TIM shows it if either has traffic. Returns WF_OK;
+ * WF_BAD_STATION if the station number does not exist; or else WF_BAD_AID exactly if the AID is 0 or above
+ * 2007. After an error nothing has changed. */
+int32_t wf_path_set_aid(struct wf_path *path, uint16_t station, uint16_t aid);
 
 /* Writes the access point's address. */
 void wf_path_base(const struct wf_path *path, uint8_t out[6]);
@@ -547,10 +586,11 @@ int32_t wf_path_address(const struct wf_path *path, uint16_t station, uint8_t ou
  * not refused. The refusals of a call are given in the order in which they are checked; the first that holds
  * is returned. */
 
-/* Makes a station live. `window` is its window in frames (1 to 256), `start` its first sequence number (0 to
- * 4095), `exponent` its A-MPDU length exponent (0 to 3), and `weight` its weight in airtime (1 to 16). The
- * station is awake, and its rate is MCS 0 of HT at 20 MHz with the long guard interval. Returns WF_OK,
- * WF_BAD_STATION, WF_BAD_WINDOW, WF_BAD_START, WF_BAD_EXPONENT, WF_BAD_WEIGHT or WF_LIVE. */
+/* Makes a station live with a block acknowledgement agreement for each TID. `window` is its window in frames
+ * (1 to 256), `start` its first sequence number (0 to 4095), `exponent` its A-MPDU length exponent (0 to 3),
+ * and `weight` its weight in airtime (1 to 16). The station is awake, and its rate is MCS 0 of HT at 20 MHz
+ * with the long guard interval. Returns WF_OK, WF_BAD_STATION, WF_BAD_WINDOW, WF_BAD_START, WF_BAD_EXPONENT,
+ * WF_BAD_WEIGHT or WF_LIVE. */
 int32_t wf_path_join(struct wf_path *path, uint16_t station, uint16_t window, uint16_t start, uint8_t exponent, uint8_t weight,
                      struct wf_reply *reply);
 
@@ -560,6 +600,45 @@ int32_t wf_path_join(struct wf_path *path, uint16_t station, uint16_t window, ui
  * acknowledged is dropped as WF_RETRIES, because the device has repeated it. Of each TID at most 256 frames
  * are in the device. Returns WF_OK, WF_BAD_STATION, WF_BAD_EXPONENT, WF_BAD_WEIGHT or WF_LIVE. */
 int32_t wf_path_join_offload(struct wf_path *path, uint16_t station, uint8_t exponent, uint8_t weight, struct wf_reply *reply);
+
+/* Makes a station live without agreements: its first sequence number (0 to 4095), its A-MPDU length exponent (0
+ * to 3) and its weight (1 to 16). All its TIDs are plain. An exchange of a plain TID sends one frame (`plain`
+ * of the reply is 1), and the station answers with an Ack; wf_path_done_ack ends it. The next frame of the TID
+ * is sent after this one is acknowledged or dropped. wf_path_hold and wf_path_begin begin an agreement of one
+ * TID, and wf_path_cease ends it. Returns WF_OK, WF_BAD_STATION, WF_BAD_START, WF_BAD_EXPONENT, WF_BAD_WEIGHT
+ * or WF_LIVE. */
+int32_t wf_path_plain(struct wf_path *path, uint16_t station, uint16_t start, uint8_t exponent, uint8_t weight,
+                      struct wf_reply *reply);
+
+/* Holds a plain TID (0 to 7), so that an agreement can begin. From now on no frame of the TID gets a sequence
+ * number; a frame that has one is still sent until it is acknowledged or dropped. `start` of the reply is the
+ * starting sequence number of the ADDBA request (0 to 4095). Send the request when wf_path_drained writes 1: a
+ * station with an agreement discards a frame with a lower number. If the station accepts, call wf_path_begin;
+ * if it declines, wf_path_free_tid. If no response comes, it may have accepted: send a DELBA, and call
+ * wf_path_free_tid after its Ack. Returns WF_OK; WF_BAD_STATION; WF_BAD_TID; WF_NO_STATION; WF_OFFLOADED if
+ * the station joined by wf_path_join_offload; WF_AGREED if the TID has an agreement; or WF_TID_HELD if it is
+ * held already. */
+int32_t wf_path_hold(struct wf_path *path, uint16_t station, uint8_t tid, struct wf_reply *reply);
+
+/* Begins the agreement of a held TID (0 to 7), with a window of 1 to 256 frames. From now on its frames are
+ * sent in aggregates. Returns WF_OK; WF_BAD_STATION; WF_BAD_TID; WF_BAD_WINDOW; WF_NO_STATION; WF_NOT_HELD;
+ * WF_OPEN if `count` exchanges of the TID are open; or WF_WAITS if `count` frames with sequence numbers wait to
+ * be sent. It returns neither of the last two if wf_path_drained writes 1. */
+int32_t wf_path_begin(struct wf_path *path, uint16_t station, uint8_t tid, uint16_t window, struct wf_reply *reply);
+
+/* Makes a held TID (0 to 7) plain again: its frames are sent one at a time. If the station may have an
+ * agreement, it has to acknowledge a DELBA first: until then it stores a frame if an earlier one is missing.
+ * Returns WF_OK, WF_BAD_STATION, WF_BAD_TID, WF_NO_STATION or WF_NOT_HELD. */
+int32_t wf_path_free_tid(struct wf_path *path, uint16_t station, uint8_t tid, struct wf_reply *reply);
+
+/* Ends the agreement of a TID (0 to 7). The TID is then held. Its frames with sequence numbers that wait to be
+ * sent are dropped as WF_ENDED, and `count` of the reply is their number; queued frames stay. If an exchange of
+ * the TID is open, call wf_path_stop, end the exchange, and call this function again. After it, send a DELBA,
+ * and call wf_path_free_tid when it is acknowledged. For an agreement with another window send an ADDBA request
+ * instead; for its starting sequence number call wf_path_free_tid and then wf_path_hold, without a pull between
+ * them. Returns WF_OK; WF_BAD_STATION; WF_BAD_TID; WF_NO_STATION; WF_NOT_AGREED; or WF_OPEN if `count` exchanges
+ * of the TID are open. */
+int32_t wf_path_cease(struct wf_path *path, uint16_t station, uint8_t tid, struct wf_reply *reply);
 
 /* Sets the weight of a live station in airtime, 1 to 16. Its deficit in a class is then at most its new
  * quantum and, with the setting `pending`, its airtime in flight. Returns WF_OK, WF_BAD_STATION,
@@ -656,11 +735,12 @@ int32_t wf_path_reserve(struct wf_path *path, uint32_t frames);
 int32_t wf_path_enqueue_bare(struct wf_path *path, uint16_t station, const struct wf_bare *packet, struct wf_reply *reply);
 
 /* Opens the next exchange of a class, which the driver then sends: `exchange` of the reply is its number. If it
- * is an aggregate or a batch, `frames` gets its frames. If it is a BlockAckReq, or after an error, their count
- * is 0. `air` of the reply is the time of the transmissions and of the BlockAck, in microseconds. Returns WF_OK;
- * WF_BAD_CLASS exactly if the class is above 3, and then `reply` and `frames` are unchanged; or else WF_FULL,
- * WF_AHEAD or WF_IDLE. After WF_FULL, pull again when an exchange of the class has ended; after WF_AHEAD, when
- * any exchange has ended; after WF_IDLE, also after an enqueue, a wake, a poll or a start. */
+ * sends frames, `frames` gets them: an aggregate, a batch, or the frame of a plain exchange. If it is a
+ * BlockAckReq, or after an error, their count is 0. `air` of the reply is the time of the transmissions and of
+ * the BlockAck or Ack, in microseconds. Returns WF_OK; WF_BAD_CLASS exactly if the class is above 3, and then
+ * `reply` and `frames` are unchanged; or else WF_FULL, WF_AHEAD or WF_IDLE. After WF_FULL, pull again when an
+ * exchange of the class has ended; after WF_AHEAD, when any exchange has ended; after WF_IDLE, also after an
+ * enqueue, a wake, a poll, a start, or a wf_path_begin or wf_path_free_tid. */
 int32_t wf_path_pull(struct wf_path *path, uint8_t class_, struct wf_reply *reply, struct wf_frames *frames);
 
 /* Opens the next exchange of a class as wf_path_pull does, for a device that can take only so much now: an
@@ -738,6 +818,16 @@ int32_t wf_path_give_up(struct wf_path *path, uint64_t exchange, uint16_t index,
  * answered. Returns WF_OK; WF_NO_EXCHANGE; or WF_BAD_AIR if `air` is above the setting `charge`, which is 0
  * in the standard settings. */
 int32_t wf_path_done_lost(struct wf_path *path, uint64_t exchange, uint32_t air, struct wf_reply *reply);
+
+/* Ends a plain exchange (wf_path_plain). If `acked` is not 0, the Ack was heard, and the frame is acknowledged.
+ * Otherwise the frame waits to be sent again, with the same sequence number and the Retry bit, or is dropped
+ * after its last transmission. A frame whose number is 2,048 or more above the last acknowledged number of its
+ * TID is sent only once, since the station could take a repeat for a duplicate of an earlier frame. Any other
+ * exchange with one transmission ends as by wf_path_done_each. The station is charged `air`, 1 to `charge`
+ * microseconds as the device measured them, or, if `air` is 0, what wf_path_pull answered. Returns WF_OK;
+ * WF_NO_EXCHANGE; WF_BAD_INDEX if the exchange has more than one transmission; WF_MARKED if its transmission
+ * has a mark; or WF_BAD_AIR if `air` is above the setting `charge`, which is 0 in the standard settings. */
+int32_t wf_path_done_ack(struct wf_path *path, uint64_t exchange, uint8_t acked, uint32_t air, struct wf_reply *reply);
 
 /* Ends an exchange by the start (modulo 4096) and the bitmap of a BlockAck that was heard. A batch ends by
  * wf_path_done_each, since its frames have other numbers on the air. The bitmap begins with the least
@@ -820,14 +910,30 @@ int32_t wf_path_has_small_counts(const struct wf_path *path);
  * unchanged. */
 int32_t wf_path_queued(const struct wf_path *path, uint16_t station, uint8_t tid, uint32_t *count);
 
-/* Writes how many sequence numbers of a live station's TID wait to be sent. Returns WF_OK; WF_BAD_TID exactly
- * if the TID is above 7; or else WF_NO_STATION exactly if the station is not live. After an error `count` is
- * unchanged. */
+/* Writes how many frames with sequence numbers of a live station's TID wait to be sent. Returns WF_OK;
+ * WF_BAD_TID exactly if the TID is above 7; or else WF_NO_STATION exactly if the station is not live. After an
+ * error `count` is unchanged. */
 int32_t wf_path_waiting(const struct wf_path *path, uint16_t station, uint8_t tid, uint32_t *count);
 
-/* Writes the TIM element (IEEE 802.11-2012, 8.4.2.7) of the stations that sleep and have traffic, and returns
- * its size in octets. The rest of `out` is unchanged. */
+/* Writes how many frames of a live station's TID are in open exchanges. Returns WF_OK; WF_BAD_TID exactly if the
+ * TID is above 7; or else WF_NO_STATION exactly if the station is not live. After an error `count` is
+ * unchanged. */
+int32_t wf_path_flying(const struct wf_path *path, uint16_t station, uint8_t tid, uint32_t *count);
+
+/* Writes 1 if each frame of a live station's TID that got a sequence number is acknowledged or dropped: none is
+ * in an open exchange or waits to be sent. Else it writes 0. If a held TID is drained, its agreement can begin
+ * (wf_path_hold). Returns WF_OK; WF_BAD_TID exactly if the TID is above 7; or else WF_NO_STATION exactly if the
+ * station is not live. After an error `drained` is unchanged. */
+int32_t wf_path_drained(const struct wf_path *path, uint16_t station, uint8_t tid, uint32_t *drained);
+
+/* Writes the TIM element (IEEE 802.11-2012, 8.4.2.7), and returns its size in octets. It shows the association
+ * identifiers (wf_path_set_aid) of the stations that sleep and have traffic, of all BSSs. The rest of `out` is
+ * unchanged. */
 size_t wf_path_tim(const struct wf_path *path, uint8_t out[256]);
+
+/* Writes the TIM element of one BSS as wf_path_tim does, and returns its size in octets. It shows only stations
+ * whose access point has the address `bss` (wf_path_set_bss, or else wf_path_set_base). */
+size_t wf_path_tim_of(const struct wf_path *path, const uint8_t bss[6], uint8_t out[256]);
 
 /* ---- cells. A cell has both halves, and the history of its calls. Transmissions are octets inside: the cell
  * writes each one that arrives, passes it to the station, and reads the station's BlockAck. The conditions
@@ -848,9 +954,9 @@ void wf_cell_free(struct wf_cell *cell);
 /* Makes a call that neither accepts nor reaps a frame: all kinds except WF_CALL_ENQUEUE and WF_CALL_REAP. It
  * writes the answer to `reply`. `caller` is any number of the caller's, which the history keeps. Returns
  * WF_OK, or the first of these that holds: WF_BAD_CALL if the struct does not show such a call, or shows a
- * rate of no format or a class above 3, and then nothing has changed, nor `reply`; WF_HISTORY_FULL if the history has `calls`
- * entries, and then the state and the history of the cell are unchanged; the refusal of the call. After WF_OK
- * and a refusal of the call it is one entry of the history. */
+ * rate of no format or a class above 3, and then nothing has changed, nor `reply`; WF_HISTORY_FULL if the
+ * history has `calls` entries, and then the state and the history of the cell are unchanged; the refusal of the
+ * call. After WF_OK and a refusal of the call it is one entry of the history. */
 int32_t wf_cell_ask(struct wf_cell *cell, uint32_t caller, const struct wf_call *call, struct wf_reply *reply);
 
 /* Accepts a packet for a station as a frame, whose id is `id` of the reply. The body is copied. Returns WF_OK,
@@ -896,17 +1002,18 @@ int32_t wf_cell_reap(struct wf_cell *cell, uint32_t caller, struct wf_reply *rep
 int32_t wf_cell_burst(struct wf_cell *cell, uint32_t caller, const struct wf_call *calls, size_t count, struct wf_reply *replies,
                       size_t room, size_t *made);
 
-/* Writes the frames of the aggregate or batch, if the answer to the last call sends one; otherwise their
- * count is 0. A call that was refused with WF_HISTORY_FULL counts as the last call; one that returned
- * WF_BAD_CALL, WF_BAD_LENGTH, WF_NO_MEMORY or WF_SMALL_BUFFER does not. */
+/* Writes the frames that the last call sends, if its answer sends some; otherwise their count is 0. A call that
+ * was refused with WF_HISTORY_FULL counts as the last call; one that returned WF_BAD_CALL, WF_BAD_LENGTH,
+ * WF_NO_MEMORY or WF_SMALL_BUFFER does not. */
 void wf_cell_frames(const struct wf_cell *cell, struct wf_frames *frames);
 
-/* Writes the frames that the station passed up, if a transmission arrived by the last call; otherwise, and if
- * it is of a batch, their count is 0. The last call is defined at wf_cell_frames. */
+/* Writes the frames that the station passed up because of the last call, an arrival or the end of an agreement;
+ * otherwise, and if the transmission is of a batch, their count is 0. The last call is defined at
+ * wf_cell_frames. */
 void wf_cell_released(const struct wf_cell *cell, struct wf_passed_up *up);
 
-/* Writes the BlockAck of the station, if it answered by the last call; otherwise all fields are 0. The last
- * call is defined at wf_cell_frames. */
+/* Writes the BlockAck of the station, if the last call was answered with one (WF_KIND_BA); otherwise all fields
+ * are 0. The last call is defined at wf_cell_frames. */
 void wf_cell_block(const struct wf_cell *cell, struct wf_block *block);
 
 /* Returns how many entries the history has. */

@@ -7,7 +7,7 @@ use Rattle.wf_frame.specs.Calls.{call_numbered, limits, no_limits}
 use Rattle.wf_frame.specs.Classes.{all_classes, class_among, class_number}
 use Rattle.wf_frame.specs.declared.classes.Class.{Class}
 use Rattle.wf_frame.specs.declared.notes.Note.TheVariants.{Enqueue, Asked}
-use Rattle.wf_frame.specs.declared.notes.Ask.TheVariants.{Join, Leave, Rate, Tick, Pull, Arrive, Answer, Done, Sleep, Wake, Poll, Rx, Reap, Ampdu, Stop, Start, Unsent, GiveUp, Flush, Offload, Weight}
+use Rattle.wf_frame.specs.declared.notes.Ask.TheVariants.{Join, Leave, Rate, Tick, Pull, Arrive, Answer, Done, Sleep, Wake, Poll, Rx, Reap, Ampdu, Stop, Start, Unsent, GiveUp, Flush, Offload, Weight, Plain, Hold, Begin, Free, Cease}
 use Rattle.wf_frame.specs.declared.notes.AskedRate.TheVariants.{Ht, Vht, He}
 use Rattle.wf_c.specs.CallNumbers.{blank_call, numbers_of_call, asked, call_noted}
 use Rattle.wf_c.specs.Numbers.{flag_of, is_up}
@@ -157,6 +157,31 @@ pub fields_of_weight : (station weight : ℕ) →
     ≡ record blank_call { kind = 21; station = station; weight = weight }
 fields_of_weight station weight = refl
 
+pub fields_of_plain : (station start exponent weight : ℕ) →
+    numbers_of_call (Asked (Plain station start exponent weight))
+    ≡ record blank_call { kind = 22; station = station; start = start; exponent = exponent; weight = weight }
+fields_of_plain station start exponent weight = refl
+
+pub fields_of_hold : (station tid : ℕ) →
+    numbers_of_call (Asked (Hold station tid))
+    ≡ record blank_call { kind = 23; station = station; tid = tid }
+fields_of_hold station tid = refl
+
+pub fields_of_begin : (station tid window : ℕ) →
+    numbers_of_call (Asked (Begin station tid window))
+    ≡ record blank_call { kind = 24; station = station; tid = tid; window = window }
+fields_of_begin station tid window = refl
+
+pub fields_of_free : (station tid : ℕ) →
+    numbers_of_call (Asked (Free station tid))
+    ≡ record blank_call { kind = 25; station = station; tid = tid }
+fields_of_free station tid = refl
+
+pub fields_of_cease : (station tid : ℕ) →
+    numbers_of_call (Asked (Cease station tid))
+    ≡ record blank_call { kind = 26; station = station; tid = tid }
+fields_of_cease station tid = refl
+
 -- ---- the call of fields
 
 -- the calls that these fields show, by their kind and some other field
@@ -200,12 +225,17 @@ pub record Rows (c : CallNumbers) : Type 0 where
   pub flush : asked (record c { kind = 19 }) ≡ Some (Flush c.station c.tid)
   pub offload : asked (record c { kind = 20 }) ≡ Some (Offload c.station c.exponent c.weight)
   pub weight : asked (record c { kind = 21 }) ≡ Some (Weight c.station c.weight)
-  pub no_call : (n : ℕ) → 21 < n → asked (record c { kind = n }) ≡ None
+  pub plain : asked (record c { kind = 22 }) ≡ Some (Plain c.station c.start c.exponent c.weight)
+  pub hold : asked (record c { kind = 23 }) ≡ Some (Hold c.station c.tid)
+  pub begin : asked (record c { kind = 24 }) ≡ Some (Begin c.station c.tid c.window)
+  pub free : asked (record c { kind = 25 }) ≡ Some (Free c.station c.tid)
+  pub cease : asked (record c { kind = 26 }) ≡ Some (Cease c.station c.tid)
+  pub no_call : (n : ℕ) → 26 < n → asked (record c { kind = n }) ≡ None
 
 above : (n k : ℕ) → k < n → nat_eq n k ≡ false
 above n k less = grind (arith, nat_tests)
 
-none_numbered : (n : ℕ) → 21 < n → call_numbered n ≡ None
+none_numbered : (n : ℕ) → 26 < n → call_numbered n ≡ None
 none_numbered n less = grind (arith, nat_tests)
 
 is_class : (n : ℕ) → n ≤ 3 → nat_lt 3 n ≡ false
@@ -249,5 +279,10 @@ rows c = record {
   flush = refl;
   offload = refl;
   weight = refl;
+  plain = refl;
+  hold = refl;
+  begin = refl;
+  free = refl;
+  cease = refl;
   no_call = λ n less. rw (none_numbered n less) refl;
 }

@@ -23,6 +23,7 @@ shows_why (refusal.Sleeping queued) = refl
 shows_why (refusal.Full count) = refl
 shows_why (refusal.Debt deficit) = refl
 shows_why (refusal.Ahead owed) = refl
+shows_why (refusal.Waits count) = refl
 shows_why _ = refl
 
 -- another answer shows no refusal; the last line is for all answers without an option
@@ -30,8 +31,8 @@ shows_none : (b : Brief) → is_refused (reply_with b [] []) ≡ false → (numb
 shows_none (Refused why) is = absurd (both_ways true is refl)
 shows_none (Accepted id None) is = refl
 shows_none (Accepted id (Some dropped)) is = refl
-shows_none (Send exchange station tid air None batch more) is = refl
-shows_none (Send exchange station tid air (Some start) batch more) is = refl
+shows_none (Send exchange station tid air None kind more) is = refl
+shows_none (Send exchange station tid air (Some start) kind more) is = refl
 shows_none _ is = refl
 
 module _ {p q : PathValue} {e : ℕ} {heard : Option (ℕ × List ℕ)} {air : Option ℕ} {b : Brief}

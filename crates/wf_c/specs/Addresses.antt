@@ -5,6 +5,8 @@ use Rattle.wf_frame.specs.declared.notes.Refusal.TheVariants as refusal
 use Rattle.wf_path.specs.Addresses.{Addresses}
 use Rattle.wf_path.specs.declared.faults.BadAddress.{BadAddress}
 use Rattle.wf_path.specs.declared.faults.BadAddress.TheVariants.{NoStation, Group}
+use Rattle.wf_path.specs.declared.faults.AidFault.{AidFault}
+use Rattle.wf_path.specs.declared.faults.AidFault.TheVariants as aid
 use Rattle.wf_c.specs.declared.held.Held.{Held}
 
 -- the code of setting an address: 0 means success, and a station number that does not exist has the number of
@@ -13,6 +15,12 @@ abbrev pub address_code : Option BadAddress → ℕ
 address_code None = 0
 address_code (Some NoStation) = refusal_number refusal.BadStation
 address_code (Some Group) = 44
+
+-- the code of setting an association identifier
+abbrev pub aid_code : Option AidFault → ℕ
+aid_code None = 0
+aid_code (Some aid.NoStation) = refusal_number refusal.BadStation
+aid_code (Some aid.BadAid) = 46
 
 -- the code of reading a station's address
 abbrev pub told_code : Option (List ℕ) → ℕ

@@ -7,7 +7,7 @@ use Rattle.wf_frame.specs.declared.notes.Note.TheVariants.{Asked}
 use Rattle.wf_def_world.specs.World.{World}
 use Rattle.wf_send_half_model.specs.Standing.{StandsFor, Meets}
 use Rattle.wf_path.specs.Addresses.{Addresses, made_up}
-use Rattle.wf_path.specs.Jobs.{MayCall, bodies_after, changes_nothing}
+use Rattle.wf_path.specs.Jobs.{MayCall, bodies_after, changes_nothing, with_released}
 use Rattle.wf_path.specs.Paths.{IsPath, IsSmall}
 use Rattle.wf_path.specs.declared.job.Job.TheVariants.{Call}
 use Rattle.wf_c.specs.Numbers.{numbers_of}
@@ -42,8 +42,9 @@ Becomes R _ _ = ⊥
 -- The effect of a call without a frame: h before, k after, and the caller's struct.
 --
 --   meets      for each world that the path represented, and in which a path may make the call, it is the
---              machine's step, with the machine's reply; the frames that it sends have one more attempt, and
---              the frame of a transmission that never went on the air has one less
+--              machine's step, with the machine's reply, but for the frames that a receiver releases when an
+--              agreement ends, of which a path does not know; the frames that the call sends have one more
+--              attempt, and the frame of a transmission that never went on the air has one less
 --   refused    a refused call changes nothing, except a pull that finds no ready station
 --   addresses  the addresses are unchanged
 --   reserve    no node of the reserve is taken
@@ -51,7 +52,7 @@ Becomes R _ _ = ⊥
 pub record IsCalled (h : Held) (ask : Ask) (k : Held) (shown : Reply) : Type 0 where
   pub meets : (w : World) (bodies : ℕ → FrameValue) → StandsFor h.path.half w bodies → MayCall w (Call ask) →
       Meets w (bodies_after h.path.half w (Call ask) (reply_of k.answer) bodies) (Asked ask) k.path.half
-      (reply_of k.answer)
+      (with_released w (Call ask) (reply_of k.answer))
   pub refused : changes_nothing (reply_of k.answer) ≡ true → k.path ≡ h.path
   pub addresses : k.path.addresses ≡ h.path.addresses
   pub reserve : h.reserve ≤ k.reserve

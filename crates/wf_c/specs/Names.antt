@@ -58,8 +58,8 @@ block_word = word_among block_rows
 abbrev pub own_rows : List (ℕ × List ℕ)
 own_rows =
     (0, codes "ok") ∷ (40, codes "no-memory") ∷ (41, codes "bad-length") ∷ (42, codes "small-buffer") ∷
-    (43, codes "bad-call") ∷ (44, codes "bad-address") ∷ (45, codes "no-body") ∷ (47, codes "bad-class") ∷
-    (48, codes "bad-outcome") ∷ (49, codes "in-use") ∷ []
+    (43, codes "bad-call") ∷ (44, codes "bad-address") ∷ (45, codes "no-body") ∷ (46, codes "bad-aid") ∷
+    (47, codes "bad-class") ∷ (48, codes "bad-outcome") ∷ (49, codes "in-use") ∷ []
 
 -- the word for such a code
 abbrev pub own_word : ℕ → List ℕ
@@ -82,7 +82,9 @@ kind_rows =
     (5, codes "send") ∷ (6, codes "released") ∷ (7, codes "ba") ∷ (8, codes "done") ∷ (9, codes "slept") ∷
     (10, codes "woken") ∷ (11, codes "polled") ∷ (12, codes "charged") ∷ (13, codes "reaped") ∷
     (14, codes "refused") ∷ (15, codes "stopped") ∷ (16, codes "started") ∷
-    (17, codes "marked") ∷ (18, codes "flushed") ∷ []
+    (17, codes "marked") ∷ (18, codes "flushed") ∷
+    (19, codes "ack") ∷ (20, codes "held") ∷ (21, codes "begun") ∷ (22, codes "freed") ∷
+    (23, codes "ceased") ∷ []
 
 -- the word for a kind of answer
 abbrev pub answer_word : ℕ → List ℕ

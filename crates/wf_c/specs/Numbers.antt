@@ -3,8 +3,10 @@ use Rattle.std.specs.Prelude.{ℕ, ◌==◌, not, Bool, true, false, Option, Som
 use Rattle.wf_frame.specs.Classes.{all_classes, class_number, fate_number}
 use Rattle.wf_frame.specs.declared.classes.Class.{Class}
 use Rattle.wf_frame.specs.declared.answers.Brief.{Brief}
-use Rattle.wf_frame.specs.declared.answers.Brief.TheVariants.{Joined, Set, Now, Accepted, Send, Released, Ba, Done, Slept, Woken, Polled, Charged, Reaped, Stopped, Started, Marked, Refused}
+use Rattle.wf_frame.specs.declared.answers.Brief.TheVariants.{Joined, Set, Now, Accepted, Send, Released, Ba, Done, Slept, Woken, Polled, Charged, Reaped, Stopped, Started, Marked, Ack, Begun, Freed, Refused}
 use Rattle.wf_frame.specs.declared.answers.Brief.TheVariants as brief
+use Rattle.wf_frame.specs.declared.answers.Kind.{Kind}
+use Rattle.wf_frame.specs.declared.answers.Kind.TheVariants.{Batch, Plain}
 use Rattle.wf_frame.specs.Calls.{limits}
 use Rattle.wf_frame.specs.Refusals.{refusal_number}
 use Rattle.wf_frame.specs.declared.notes.Limits.{Limits}
@@ -71,7 +73,18 @@ blank = record {
   request = 0;
   more = 0;
   batch = 0;
+  plain = 0;
 }
+
+-- whether the device numbers the frames of an exchange
+abbrev pub is_batch_kind : Kind → Bool
+is_batch_kind Batch = true
+is_batch_kind _ = false
+
+-- whether an exchange sends one frame without an agreement
+abbrev pub is_plain_kind : Kind → Bool
+is_plain_kind Plain = true
+is_plain_kind _ = false
 
 -- with the frame that was dropped, if any
 abbrev pub with_dropped : Option ℕ → Reply → Reply
@@ -93,6 +106,7 @@ with_refusal (refusal.Sleeping queued) r = record r { count = queued }
 with_refusal (refusal.Full count) r = record r { count = count }
 with_refusal (refusal.Debt deficit) r = record r { deficit = deficit }
 with_refusal (refusal.Ahead owed) r = record r { air = owed }
+with_refusal (refusal.Waits count) r = record r { count = count }
 with_refusal _ r = r
 
 -- end refusals
@@ -104,14 +118,15 @@ numbers_of (brief.Left dropped) = record blank { kind = 1; count = dropped }
 numbers_of Set = record blank { kind = 2 }
 numbers_of (Now now) = record blank { kind = 3; now = now }
 numbers_of (Accepted id dropped) = with_dropped dropped (record blank { kind = 4; id = id })
-numbers_of (Send exchange station tid air request batch more) =
+numbers_of (Send exchange station tid air request kind more) =
     record (with_request_start request (record blank { kind = 5 })) {
       exchange = exchange;
       station = station;
       tid = tid;
       air = air;
       more = flag_of more;
-      batch = flag_of batch;
+      batch = flag_of (is_batch_kind kind);
+      plain = flag_of (is_plain_kind kind);
     }
 numbers_of Released = record blank { kind = 6 }
 numbers_of (Ba start b0 b1 b2 b3 wide) = record blank { kind = 7 }
@@ -126,8 +141,29 @@ numbers_of Stopped = record blank { kind = 15 }
 numbers_of Started = record blank { kind = 16 }
 numbers_of Marked = record blank { kind = 17 }
 numbers_of (brief.Flushed dropped) = record blank { kind = 18; count = dropped }
+numbers_of Ack = record blank { kind = 19 }
+numbers_of (brief.Held start) = record blank { kind = 20; start = start }
+numbers_of Begun = record blank { kind = 21 }
+numbers_of Freed = record blank { kind = 22 }
+numbers_of (brief.Ceased dropped) = record blank { kind = 23; count = dropped }
 numbers_of (Refused reason) = with_refusal reason
     (record blank { kind = 14; refusal = refusal_number reason })
+
+-- whether an answer has no field except its kind
+abbrev pub is_kind_alone : Brief → Bool
+is_kind_alone Joined = true
+is_kind_alone Set = true
+is_kind_alone Released = true
+is_kind_alone (Ba start b0 b1 b2 b3 wide) = true
+is_kind_alone Slept = true
+is_kind_alone Woken = true
+is_kind_alone Stopped = true
+is_kind_alone Started = true
+is_kind_alone Marked = true
+is_kind_alone Ack = true
+is_kind_alone Begun = true
+is_kind_alone Freed = true
+is_kind_alone _ = false
 
 -- whether a flag of the caller's is set: any number except 0
 abbrev pub is_up : ℕ → Bool

@@ -1,7 +1,8 @@
--- Defines how a struct shows the frames of an aggregate.
+-- Defines how a struct shows the frames of an exchange.
 use Rattle.std.specs.Prelude.{◌≡◌, ℕ, Bool, if◌then◌else◌, List, map, length, slice_get, slice_index, Some, None}
 use Rattle.wf_frame.specs.declared.answers.Brief.{Brief}
 use Rattle.wf_frame.specs.declared.answers.Brief.TheVariants.{Send}
+use Rattle.wf_c.specs.Numbers.{is_batch_kind}
 use Rattle.wf_c.specs.declared.pulled.Frames.{Frames}
 
 -- entry i is this frame: its id and its sequence number
@@ -24,6 +25,6 @@ pairs_shown batch pairs = map (pair_shown batch) pairs
 
 -- the entries are the frames that an answer sends, or it sends none
 abbrev pub ShowsAggregate : Frames → Brief → List (ℕ × ℕ) → Type 0
-ShowsAggregate f (Send exchange station tid air None batch more) pairs =
-    ShowsPairs f (pairs_shown batch pairs)
+ShowsAggregate f (Send exchange station tid air None kind more) pairs =
+    ShowsPairs f (pairs_shown (is_batch_kind kind) pairs)
 ShowsAggregate f _ pairs = f.count ≡ 0

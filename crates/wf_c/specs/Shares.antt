@@ -47,6 +47,7 @@ counts_shown t = record {
   retries = t.retries;
   left = t.left;
   flushed = t.flushed;
+  ended = t.ended;
 }
 
 -- the caller's struct shows the airtime of station s in class c

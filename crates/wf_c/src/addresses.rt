@@ -19,7 +19,7 @@ use wf_path::BadAddress;
 const BAD_ADDRESS: i32 = 44;
 
 // The code of an address that was set or refused.
-fn code_of(named: Result<(), BadAddress>) -> i32
+pub(crate) fn code_of(named: Result<(), BadAddress>) -> i32
     ensures { result ≡ pos (address_code (result_err named)) }
 {
     match named {

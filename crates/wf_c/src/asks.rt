@@ -3,7 +3,7 @@
 //! Each writes its answer to the caller's `Reply`, and returns its refusal, or 0 if it was not refused.
 
 ghost use Rattle.std.specs.Prelude.{◌≡◌, true, is_some, pos, IfSome, IfNone, OnSome};
-ghost use Rattle.wf_frame.specs.declared.notes.Ask.TheVariants.{Join, Leave, Rate, Tick, Pull, Sleep, Wake, Poll, Rx, Ampdu, Stop, Start, Unsent, GiveUp, Flush, Offload, Weight};
+ghost use Rattle.wf_frame.specs.declared.notes.Ask.TheVariants.{Join, Leave, Rate, Tick, Pull, Sleep, Wake, Poll, Rx, Ampdu, Stop, Start, Unsent, GiveUp, Flush, Offload, Weight, Plain, Hold, Begin, Free, Cease};
 ghost use Rattle.wf_frame.specs.declared.notes.AskedRate.TheVariants.{Ht, Vht, He};
 ghost use Rattle.wf_frame.specs.Calls.{no_limits};
 ghost use Rattle.wf_path.specs.Jobs.{as_ask};
@@ -28,6 +28,28 @@ impl PathSlot {
         ensures code { result ≡ pos reply.new.refusal }
     {
         *reply = self.held().ask(ask);
+        i32::from(reply.refusal)
+    }
+
+    // Opens the next exchange of a class, within these limits. Returns `BAD_CLASS` if the class is above 3,
+    // and then nothing has changed.
+    fn pull(&mut self, class: u8, limits: Limits, reply: &mut Reply, frames: &mut Frames) -> i32
+        requires open { is_some self.old.value ≡ true }
+        requires small { HoldsSmall self.old.value }
+        ensures called { IfSome (class_shown class) (λ c. Becomes (λ h k. IsCalled h
+            (Pull c limits) k reply.new × (result ≡ pos reply.new.refusal)) self.old.value self.new.value) }
+        ensures frames { OnSome (class_shown class) (IfSome self.new.value
+            (λ k. ShowsAggregate frames.new k.answer.brief k.answer.pairs)) }
+        ensures refused { IfNone (class_shown class)
+            (IsUntouched self.old.value self.new.value reply.old reply.new result bad_class) }
+        ensures kept { IfNone (class_shown class) (frames.new ≡ frames.old) }
+    {
+        let Some(class) = class_of_number(class) else {
+            return BAD_CLASS;
+        };
+        let held = self.held();
+        *reply = held.pull(class, limits);
+        frames.show(&held.answer);
         i32::from(reply.refusal)
     }
 }
@@ -97,6 +119,101 @@ pub extern "C" fn wf_path_join_offload(
         weight,
     };
     path.ask(ask, reply)
+}
+
+/// Makes a station live without agreements: its first sequence number, A-MPDU length exponent and weight. Its
+/// frames go one at a time.
+#[unsafe(no_mangle)]
+pub extern "C" fn wf_path_plain(
+    path: &mut PathSlot,
+    station: u16,
+    start: u16,
+    exponent: u8,
+    weight: u8,
+    reply: &mut Reply,
+) -> i32
+    requires open { is_some path.old.value ≡ true }
+    requires small { HoldsSmall path.old.value }
+    ensures called { Becomes (λ h k. IsCalled h
+        (Plain station start exponent weight) k reply.new) path.old.value path.new.value }
+    ensures code { result ≡ pos reply.new.refusal }
+{
+    let ask = PathAsk::Plain {
+        station,
+        start,
+        exponent,
+        weight,
+    };
+    path.ask(ask, reply)
+}
+
+/// Gives no frame of a TID a sequence number from now on, so that an agreement can begin.
+#[unsafe(no_mangle)]
+pub extern "C" fn wf_path_hold(path: &mut PathSlot, station: u16, tid: u8, reply: &mut Reply) -> i32
+    requires open { is_some path.old.value ≡ true }
+    requires small { HoldsSmall path.old.value }
+    ensures called { Becomes (λ h k. IsCalled h
+        (Hold station tid) k reply.new) path.old.value path.new.value }
+    ensures code { result ≡ pos reply.new.refusal }
+{
+    path.ask(PathAsk::Hold { station, tid }, reply)
+}
+
+/// Begins the agreement of a TID that is held, with its window in frames.
+#[unsafe(no_mangle)]
+pub extern "C" fn wf_path_begin(
+    path: &mut PathSlot,
+    station: u16,
+    tid: u8,
+    window: u16,
+    reply: &mut Reply,
+) -> i32
+    requires open { is_some path.old.value ≡ true }
+    requires small { HoldsSmall path.old.value }
+    ensures called { Becomes (λ h k. IsCalled h
+        (Begin station tid window) k reply.new) path.old.value path.new.value }
+    ensures code { result ≡ pos reply.new.refusal }
+{
+    let ask = PathAsk::Begin {
+        station,
+        tid,
+        window,
+    };
+    path.ask(ask, reply)
+}
+
+/// Lets a TID that is held send its frames one at a time.
+#[unsafe(no_mangle)]
+pub extern "C" fn wf_path_free_tid(
+    path: &mut PathSlot,
+    station: u16,
+    tid: u8,
+    reply: &mut Reply,
+) -> i32
+    requires open { is_some path.old.value ≡ true }
+    requires small { HoldsSmall path.old.value }
+    ensures called { Becomes (λ h k. IsCalled h
+        (Free station tid) k reply.new) path.old.value path.new.value }
+    ensures code { result ≡ pos reply.new.refusal }
+{
+    path.ask(PathAsk::Free { station, tid }, reply)
+}
+
+/// Ends the agreement of a TID, which is then held. Its frames that have sequence numbers are dropped.
+#[unsafe(no_mangle)]
+pub extern "C" fn wf_path_cease(
+    path: &mut PathSlot,
+    station: u16,
+    tid: u8,
+    reply: &mut Reply,
+) -> i32
+    requires open { is_some path.old.value ≡ true }
+    requires small { HoldsSmall path.old.value }
+    ensures called { Becomes (λ h k. IsCalled h
+        (Cease station tid) k reply.new) path.old.value path.new.value }
+    ensures code { result ≡ pos reply.new.refusal }
+{
+    path.ask(PathAsk::Cease { station, tid }, reply)
 }
 
 /// Sets a station's weight.
@@ -369,7 +486,7 @@ pub extern "C" fn wf_path_rx(
     }
 }
 
-/// Opens the next exchange of a class. If it sends an aggregate or a batch, `frames` gets its frames;
+/// Opens the next exchange of a class. If it sends frames, `frames` gets them;
 /// otherwise their count is 0. Returns 47 if the class is above 3, and then nothing has changed.
 #[unsafe(no_mangle)]
 pub extern "C" fn wf_path_pull(
@@ -388,13 +505,7 @@ pub extern "C" fn wf_path_pull(
         (IsUntouched path.old.value path.new.value reply.old reply.new result bad_class) }
     ensures kept { IfNone (class_shown class) (frames.new ≡ frames.old) }
 {
-    let Some(class) = class_of_number(class) else {
-        return BAD_CLASS;
-    };
-    let held = path.held();
-    *reply = held.pull(class, Limits::NONE);
-    frames.show(&held.answer);
-    i32::from(reply.refusal)
+    path.pull(class, Limits::NONE, reply, frames)
 }
 
 /// Opens the next exchange of a class with at most `most` frames, whose data take at most `air` microseconds.
@@ -419,15 +530,9 @@ pub extern "C" fn wf_path_pull_limited(
         (IsUntouched path.old.value path.new.value reply.old reply.new result bad_class) }
     ensures kept { IfNone (class_shown class) (frames.new ≡ frames.old) }
 {
-    let Some(class) = class_of_number(class) else {
-        return BAD_CLASS;
-    };
     let limits = Limits {
         frames: given_number(most),
         air: given_number(air),
     };
-    let held = path.held();
-    *reply = held.pull(class, limits);
-    frames.show(&held.answer);
-    i32::from(reply.refusal)
+    path.pull(class, limits, reply, frames)
 }

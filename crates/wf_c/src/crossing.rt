@@ -8,9 +8,12 @@ use std::marker::Send;
 
 fn is_sent<T: Send>() {}
 
-fn handles_are_sent() {
+fn paths_are_sent() {
     is_sent::<Held>();
     is_sent::<PathSlot>();
+}
+
+fn cells_are_sent() {
     is_sent::<HeldCell>();
     is_sent::<CellSlot>();
 }

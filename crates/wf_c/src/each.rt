@@ -1,15 +1,15 @@
 //! The end of an exchange by what a device reports of each of its transmissions.
 
-ghost use Rattle.std.specs.Prelude.{◌≡◌, ◌<◌, ◌≤◌, ℕ, map, length, take, true, false, is_some, pos};
+ghost use Rattle.std.specs.Prelude.{◌≡◌, ◌<◌, ◌≤◌, ◌∷◌, [], ℕ, map, length, take, true, false, is_some, pos};
 ghost use Rattle.wf_frame.specs.Frames.{FrameValue};
 ghost use Rattle.wf_def_world.specs.World.{World, exchange as exchange_in};
 ghost use Rattle.wf_send_half_model.specs.Standing.{StandsFor};
-ghost use Rattle.wf_path.specs.Each.{none_sent, air_of_none};
+ghost use Rattle.wf_path.specs.Each.{none_sent, air_of_none, outcome_of_ack};
 ghost use Rattle.wf_path.specs.Paths.{IsSmall};
 ghost use Rattle.wf_c.specs.Bodies.{IsUntouched};
 ghost use Rattle.wf_c.specs.Calls.{Becomes, HoldsFor, HoldsSmall};
 ghost use Rattle.wf_c.specs.Each.{IsExchangeEndedEach, IsEndRefused, bad_outcome, has_bad_outcome, outcome_shown, refusal_of_many};
-ghost use Rattle.wf_c.specs.Numbers.{given_number};
+ghost use Rattle.wf_c.specs.Numbers.{given_number, is_up};
 
 use crate::exchanges::given_number;
 use crate::held::Held;
@@ -66,6 +66,15 @@ impl Held {
         self.answer.brief = self
             .path
             .done_each(exchange, &outcomes[..numbers.len()], air);
+        Reply::of(self.answer.brief)
+    }
+
+    // Ends an exchange of one transmission by whether its Ack was heard.
+    fn end_by_ack(&mut self, exchange: u64, acked: bool, air: Option<u32>) -> Reply
+        requires small { IsSmall self.old.path.half }
+        ensures { IsExchangeEndedEach self.old exchange (outcome_of_ack acked ∷ []) air self.new result }
+    {
+        self.answer.brief = self.path.done_ack(exchange, acked, air);
         Reply::of(self.answer.brief)
     }
 
@@ -127,6 +136,30 @@ pub extern "C" fn wf_path_done_each(
     } else {
         *reply = held.end_each(exchange, outcomes, given_number(air));
     }
+    i32::from(reply.refusal)
+}
+
+/// Ends a plain exchange; `acked` other than 0 says that its frame was acknowledged. The station is charged
+/// `air` microseconds, or the computed charge if `air` is 0. Returns 0; 12 if the exchange is not open; 9 if
+/// it has more than one transmission; 32 if its transmission has a mark already; or 8 if `air` is above the
+/// setting `charge`.
+#[unsafe(no_mangle)]
+pub extern "C" fn wf_path_done_ack(
+    path: &mut PathSlot,
+    exchange: u64,
+    acked: u8,
+    air: u32,
+    reply: &mut Reply,
+) -> i32
+    requires open { is_some path.old.value ≡ true }
+    requires small { HoldsSmall path.old.value }
+    ensures ended { Becomes (λ h k. IsExchangeEndedEach h exchange (outcome_of_ack (is_up acked) ∷ [])
+        (given_number air) k reply.new) path.old.value path.new.value }
+    ensures code { result ≡ pos reply.new.refusal }
+{
+    *reply = path
+        .held()
+        .end_by_ack(exchange, acked != 0, given_number(air));
     i32::from(reply.refusal)
 }
 

@@ -12,6 +12,7 @@
 mod addresses;
 mod asks;
 mod bare;
+mod bss;
 mod burst;
 mod cell;
 mod clock;
@@ -28,41 +29,107 @@ mod reply;
 mod reserve;
 mod settings;
 mod slot;
+mod unsettled;
 mod version;
 
-pub use addresses::{wf_path_address, wf_path_base, wf_path_set_address, wf_path_set_base};
-pub use asks::{
-    wf_path_ampdu, wf_path_flush, wf_path_give_up, wf_path_join, wf_path_join_offload,
-    wf_path_leave, wf_path_poll, wf_path_pull, wf_path_pull_limited, wf_path_rate_he,
-    wf_path_rate_ht, wf_path_rate_vht, wf_path_rx, wf_path_sleep, wf_path_start, wf_path_stop,
-    wf_path_tick, wf_path_unsent, wf_path_wake, wf_path_weight,
-};
-pub use bare::{Bare, wf_path_enqueue_bare, wf_path_reserve};
+pub use addresses::wf_path_address;
+pub use addresses::wf_path_base;
+pub use addresses::wf_path_set_address;
+pub use addresses::wf_path_set_base;
+pub use asks::wf_path_ampdu;
+pub use asks::wf_path_begin;
+pub use asks::wf_path_cease;
+pub use asks::wf_path_flush;
+pub use asks::wf_path_free_tid;
+pub use asks::wf_path_give_up;
+pub use asks::wf_path_hold;
+pub use asks::wf_path_join;
+pub use asks::wf_path_join_offload;
+pub use asks::wf_path_leave;
+pub use asks::wf_path_plain;
+pub use asks::wf_path_poll;
+pub use asks::wf_path_pull;
+pub use asks::wf_path_pull_limited;
+pub use asks::wf_path_rate_he;
+pub use asks::wf_path_rate_ht;
+pub use asks::wf_path_rate_vht;
+pub use asks::wf_path_rx;
+pub use asks::wf_path_sleep;
+pub use asks::wf_path_start;
+pub use asks::wf_path_stop;
+pub use asks::wf_path_tick;
+pub use asks::wf_path_unsent;
+pub use asks::wf_path_wake;
+pub use asks::wf_path_weight;
+pub use bare::Bare;
+pub use bare::wf_path_enqueue_bare;
+pub use bare::wf_path_reserve;
+pub use bss::wf_path_set_aid;
+pub use bss::wf_path_set_bss;
+pub use bss::wf_path_tim_of;
 pub use burst::wf_path_burst;
-pub use cell::answers::{Block, PassedUp, wf_cell_block, wf_cell_frames, wf_cell_released};
+pub use cell::answers::Block;
+pub use cell::answers::PassedUp;
+pub use cell::answers::wf_cell_block;
+pub use cell::answers::wf_cell_frames;
+pub use cell::answers::wf_cell_released;
 pub use cell::asks::wf_cell_ask;
 pub use cell::burst::wf_cell_burst;
 pub use cell::calls::CallNumbers;
-pub use cell::frames::{wf_cell_enqueue, wf_cell_enqueue_bare, wf_cell_reap};
-pub use cell::make::{wf_cell_free, wf_cell_make};
-pub use cell::readers::{wf_cell_entry, wf_cell_len, wf_cell_room};
+pub use cell::frames::wf_cell_enqueue;
+pub use cell::frames::wf_cell_enqueue_bare;
+pub use cell::frames::wf_cell_reap;
+pub use cell::make::wf_cell_free;
+pub use cell::make::wf_cell_make;
+pub use cell::readers::wf_cell_entry;
+pub use cell::readers::wf_cell_len;
+pub use cell::readers::wf_cell_room;
 pub use cell::slot::CellSlot;
 pub use clock::wf_path_advance;
-pub use each::{wf_path_cancel, wf_path_done_each};
-pub use exchanges::{
-    Sent, wf_path_done_bits, wf_path_done_lost, wf_path_done_octets, wf_path_frame_id,
-    wf_path_frame_tag, wf_path_header, wf_path_mpdu, wf_path_sent,
-};
-pub use frames::{Packet, Taken, wf_path_enqueue, wf_path_reap};
-pub use make::{wf_path_free, wf_path_make};
-pub use names::{wf_code_name, wf_fate_name, wf_kind_name, wf_setting_name, words_law};
+pub use each::wf_path_cancel;
+pub use each::wf_path_done_ack;
+pub use each::wf_path_done_each;
+pub use exchanges::Sent;
+pub use exchanges::wf_path_done_bits;
+pub use exchanges::wf_path_done_lost;
+pub use exchanges::wf_path_done_octets;
+pub use exchanges::wf_path_frame_id;
+pub use exchanges::wf_path_frame_tag;
+pub use exchanges::wf_path_header;
+pub use exchanges::wf_path_mpdu;
+pub use exchanges::wf_path_sent;
+pub use frames::Packet;
+pub use frames::Taken;
+pub use frames::wf_path_enqueue;
+pub use frames::wf_path_reap;
+pub use make::wf_path_free;
+pub use make::wf_path_make;
+pub use names::wf_code_name;
+pub use names::wf_fate_name;
+pub use names::wf_kind_name;
+pub use names::wf_setting_name;
+pub use names::words_law;
 pub use pulled::Frames;
-pub use readers::{
-    Share, Tally, wf_path_can_pull, wf_path_exchanges, wf_path_has_small_counts, wf_path_listed,
-    wf_path_live, wf_path_now, wf_path_open_count, wf_path_queued, wf_path_share, wf_path_tally,
-    wf_path_tim, wf_path_waiting,
-};
+pub use readers::Share;
+pub use readers::Tally;
+pub use readers::wf_path_can_pull;
+pub use readers::wf_path_exchanges;
+pub use readers::wf_path_has_small_counts;
+pub use readers::wf_path_listed;
+pub use readers::wf_path_live;
+pub use readers::wf_path_now;
+pub use readers::wf_path_open_count;
+pub use readers::wf_path_queued;
+pub use readers::wf_path_share;
+pub use readers::wf_path_tally;
+pub use readers::wf_path_tim;
+pub use readers::wf_path_waiting;
 pub use reply::Reply;
-pub use settings::{Settings, wf_settings_device, wf_settings_standard};
+pub use settings::Settings;
+pub use settings::wf_settings_device;
+pub use settings::wf_settings_standard;
 pub use slot::PathSlot;
-pub use version::{Version, wf_version};
+pub use unsettled::wf_path_drained;
+pub use unsettled::wf_path_flying;
+pub use version::Version;
+pub use version::wf_version;

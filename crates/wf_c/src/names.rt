@@ -93,6 +93,7 @@ fn word_of_own(code: u32) -> &'static [u8]
         43 => b"bad-call",
         44 => b"bad-address",
         45 => b"no-body",
+        46 => b"bad-aid",
         47 => b"bad-class",
         48 => b"bad-outcome",
         49 => b"in-use",
@@ -100,7 +101,7 @@ fn word_of_own(code: u32) -> &'static [u8]
     }
 }
 
-/// Writes the word for a kind of answer, 0 to 18, the first word of its line in a trace; `?` for any other
+/// Writes the word for a kind of answer, 0 to 23, the first word of its line in a trace; `?` for any other
 /// number.
 #[unsafe(no_mangle)]
 pub extern "C" fn wf_kind_name(kind: i32, name: &mut [u8; 16])
@@ -139,11 +140,16 @@ fn word_of_kind(kind: u32) -> &'static [u8]
         16 => b"started",
         17 => b"marked",
         18 => b"flushed",
+        19 => b"ack",
+        20 => b"held",
+        21 => b"begun",
+        22 => b"freed",
+        23 => b"ceased",
         _ => UNKNOWN,
     }
 }
 
-/// Writes the word for a fate, 0 to 6; `?` for any other number.
+/// Writes the word for a fate, 0 to 7; `?` for any other number.
 #[unsafe(no_mangle)]
 pub extern "C" fn wf_fate_name(fate: i32, name: &mut [u8; 16])
     ensures { name.new ≡ name_text (word_at fate_word_at fate) }

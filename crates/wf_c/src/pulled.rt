@@ -1,11 +1,12 @@
-//! The frames of an aggregate, in a struct of the caller's.
+//! The frames of an exchange, in a struct of the caller's.
 
 ghost use Rattle.std.specs.Prelude.{◌≡◌, ◌<◌, ℕ};
+ghost use Rattle.wf_c.specs.Numbers.{is_batch_kind};
 ghost use Rattle.wf_c.specs.Pulled.{ShowsPair, ShowsPairs, ShowsAggregate, pair_shown, pairs_shown};
 
-use wf_frame::{Answer, Brief, Pairs};
+use wf_frame::{Answer, Brief, Kind, Pairs};
 
-/// The frames of an aggregate: the first `count` ids and sequence numbers. Those of a batch have no sequence
+/// The frames of an exchange: the first `count` ids and sequence numbers. Those of a batch have no sequence
 /// numbers: these are 0.
 #[repr(C)]
 #[derive(Drop)]
@@ -19,16 +20,16 @@ pub struct Frames {
 }
 
 impl Frames {
-    // Shows the frames of an answer that sends an aggregate or a batch; otherwise sets the count to 0.
+    // Shows the frames of an answer that sends some; otherwise sets the count to 0.
     pub(crate) fn show(&mut self, answer: &Answer)
         ensures { ShowsAggregate self.new answer.now.brief answer.now.pairs }
     {
         match answer.brief {
             Brief::Send {
                 request: None,
-                batch,
+                kind,
                 ..
-            } => self.show_pairs(&answer.pairs, batch),
+            } => self.show_pairs(&answer.pairs, is_batch(kind)),
             _ => self.count = 0,
         }
     }
@@ -53,6 +54,13 @@ impl Frames {
         self.ids[i] = pair.0;
         self.numbers[i] = pair.1;
     }
+}
+
+// Returns whether the device numbers the frames of an exchange.
+fn is_batch(kind: Kind) -> bool
+    ensures { result ≡ is_batch_kind kind }
+{
+    matches!(kind, Kind::Batch)
 }
 
 // Returns the id and the number of a frame, or 0 for the number of a frame of a batch.

@@ -1,6 +1,6 @@
 //! Reading a path, without a call of the machine.
 
-ghost use Rattle.std.specs.Prelude.{◌≡◌, ◌<◌, ◌⊎◌, ℕ, true, is_none, is_some, pos, length, take, drop, IfOk, IfSome, IfNone};
+ghost use Rattle.std.specs.Prelude.{◌≡◌, ◌<◌, ◌⊎◌, ℕ, None, true, is_none, is_some, pos, length, take, drop, IfOk, IfSome, IfNone};
 ghost use Rattle.std.specs.Result.{result_err};
 ghost use Rattle.wf_frame.specs.Frames.{FrameValue};
 ghost use Rattle.wf_frame.specs.declared.notes.Ask.TheVariants.{Pull};
@@ -9,12 +9,13 @@ ghost use Rattle.wf_frame.specs.declared.notes.Note.TheVariants.{Asked};
 ghost use Rattle.wf_def_agreement.specs.Session.{waiting_numbers};
 ghost use Rattle.wf_def_world.specs.FlowQueues.{frames_queued};
 ghost use Rattle.wf_def_world.specs.Refusals.{refusal};
-ghost use Rattle.wf_def_world.specs.Text.{traffic_map, with_traffic};
+ghost use Rattle.wf_def_world.specs.Text.{traffic_map};
 ghost use Rattle.wf_def_world.specs.World.{World, is_live, rotation, session};
 ghost use Rattle.wf_send_half.specs.Half.{IsLive};
 ghost use Rattle.wf_send_half_model.specs.Standing.{StandsFor, counts_in};
 ghost use Rattle.wf_send_half.specs.Listed.{list_of};
-ghost use Rattle.wf_c.specs.Calls.{HoldsFor, HoldsSmall};
+ghost use Rattle.wf_path.specs.Traffic.{aids_shown};
+ghost use Rattle.wf_c.specs.Calls.{HoldsFor, HoldsSmall, addresses_held};
 ghost use Rattle.wf_c.specs.Numbers.{class_shown, flag_of, list_number};
 ghost use Rattle.wf_c.specs.Shares.{ShowsShare, counts_shown, session_code, session_fault, share_code};
 
@@ -43,6 +44,8 @@ pub struct Tally {
     pub left: u64,
     /// Dropped because their TID was flushed.
     pub flushed: u64,
+    /// Dropped because the agreement of their TID ended.
+    pub ended: u64,
 }
 
 /// A station's airtime in a class since its join, in microseconds.
@@ -118,6 +121,7 @@ pub extern "C" fn wf_path_tally(path: &mut PathSlot, tally: &mut Tally)
         retries: counts.retries,
         left: counts.left,
         flushed: counts.flushed,
+        ended: counts.ended,
     };
 }
 
@@ -244,7 +248,7 @@ pub(crate) enum NoSession {
 
 impl Held {
     // Checks that a station's TID has a session: the TID is at most 7, and the station is live.
-    fn find_session(&self, station: u16, tid: u8) -> Result<(), NoSession>
+    pub(crate) fn find_session(&self, station: u16, tid: u8) -> Result<(), NoSession>
         ensures live { IfOk result (λ _. IsLive self.now.path.half station) }
         ensures tid { IfOk result (λ _. tid < 8) }
         ensures fault { (w : World) (bodies : ℕ → FrameValue) → StandsFor self.now.path.half w bodies →
@@ -338,7 +342,7 @@ pub extern "C" fn wf_path_waiting(
 pub extern "C" fn wf_path_tim(path: &mut PathSlot, out: &mut [u8; 256]) -> usize
     requires open { is_some path.old.value ≡ true }
     ensures octets { (w : World) (bodies : ℕ → FrameValue) → HoldsFor path.old.value w bodies →
-        take result out.new ≡ traffic_map (with_traffic w) }
+        take result out.new ≡ traffic_map (aids_shown (addresses_held path.old.value) None w) }
     ensures rest { drop result out.new ≡ drop result out.old }
     ensures unchanged { path.new.value ≡ path.old.value }
 {

@@ -1,12 +1,12 @@
 //! The answer to a call, as numbers in a struct of the caller's.
 
-ghost use Rattle.std.specs.Prelude.{◌≡◌, pos, false};
+ghost use Rattle.std.specs.Prelude.{◌≡◌, pos, true};
 ghost use Rattle.wf_frame.specs.Classes.{class_number};
 ghost use Rattle.wf_frame.specs.Refusals.{refusal_number};
 ghost use Rattle.wf_frame.specs.declared.answers.Brief.TheVariants.{Send, Done, Reaped};
-ghost use Rattle.wf_c.specs.Numbers.{blank, numbers_of, with_refusal, with_dropped, with_request_start};
+ghost use Rattle.wf_c.specs.Numbers.{blank, flag_of, is_batch_kind, is_kind_alone, is_plain_kind, numbers_of, with_refusal, with_dropped, with_request_start};
 
-use wf_frame::{Brief, Class, Fate, Refusal};
+use wf_frame::{Brief, Class, Fate, Kind, Refusal};
 
 /// The answer to a call. `kind` says which answer it is, and which other fields have a meaning; all others
 /// are 0.
@@ -25,12 +25,13 @@ pub struct Reply {
     pub deficit: i64,
     /// The airtime of the exchange to send, in microseconds; for the refusal `Ahead` that in flight.
     pub air: u32,
-    /// The number of frames that a leave or a flush dropped; for a refusal, how many are open, inside or
-    /// queued.
+    /// The number of frames that a leave, a flush or the end of an agreement dropped; for a refusal, how many
+    /// are open, inside, queued or waiting.
     pub count: u32,
     /// The station to send to.
     pub station: u16,
-    /// The start of the BlockAckReq to send, 0 to 4095, if `request` is 1.
+    /// The start of the BlockAckReq to send, if `request` is 1, or of the agreement that may begin: 0 to
+    /// 4095.
     pub start: u16,
     /// The number of the exchange's frames that are acknowledged.
     pub acked: u16,
@@ -38,15 +39,15 @@ pub struct Reply {
     pub waiting: u16,
     /// The number of its frames that are dropped.
     pub failed: u16,
-    /// The kind of answer: 0 to 18.
+    /// The kind of answer: 0 to 23.
     pub kind: u8,
-    /// Why the call was refused: 1 to 32, or 0 if it was not.
+    /// Why the call was refused: 1 to 38, or 0 if it was not.
     pub refusal: u8,
     /// The TID to send for: 0 to 7.
     pub tid: u8,
     /// The class of the credit: 0 to 3.
     pub class: u8,
-    /// The fate of the frame that was reaped: 0 to 6.
+    /// The fate of the frame that was reaped: 0 to 7.
     pub fate: u8,
     /// 1 if a frame was dropped because the flow queues were full, else 0.
     pub has_dropped: u8,
@@ -56,6 +57,8 @@ pub struct Reply {
     pub more: u8,
     /// 1 if the exchange sends frames that the station's device numbers, else 0.
     pub batch: u8,
+    /// 1 if the exchange sends one frame without an agreement, which an Ack answers, else 0.
+    pub plain: u8,
 }
 
 /// All fields 0.
@@ -81,6 +84,7 @@ const BLANK: Reply = Reply {
     request: 0,
     more: 0,
     batch: 0,
+    plain: 0,
 };
 
 impl Reply {
@@ -89,9 +93,7 @@ impl Reply {
         ensures { result ≡ numbers_of brief }
     {
         match brief {
-            Brief::Joined => of_kind(0),
             Brief::Left { dropped } => dropping(1, dropped),
-            Brief::Set => of_kind(2),
             Brief::Now { now } => Reply { now, ..of_kind(3) },
             Brief::Accepted { id, dropped } => accepted(id, dropped),
             Brief::Send {
@@ -100,21 +102,14 @@ impl Reply {
                 tid,
                 air,
                 request,
-                batch,
+                kind,
                 more,
-            } => Reply {
-                batch: u8::from(batch),
-                ..sending(exchange, station, tid, air, request, more)
-            },
-            Brief::Released => of_kind(6),
-            Brief::Ba { .. } => of_kind(7),
+            } => sending(exchange, station, tid, air, request, kind, more),
             Brief::Done {
                 acked,
                 waiting,
                 failed,
             } => ended(acked, waiting, failed),
-            Brief::Slept => of_kind(9),
-            Brief::Woken => of_kind(10),
             Brief::Polled { class } => Reply {
                 class: number_of_class(class),
                 ..of_kind(11)
@@ -124,12 +119,37 @@ impl Reply {
                 ..of_kind(12)
             },
             Brief::Reaped { id, fate } => reaped(id, fate),
-            Brief::Stopped => of_kind(15),
-            Brief::Started => of_kind(16),
-            Brief::Marked => of_kind(17),
             Brief::Flushed { dropped } => dropping(18, dropped),
+            Brief::Held { start } => Reply {
+                start,
+                ..of_kind(20)
+            },
+            Brief::Ceased { dropped } => dropping(23, dropped),
             Brief::Refused(refusal) => refused(refusal),
+            brief => alone(brief),
         }
+    }
+}
+
+// An answer with no field except its kind; there is no other answer here.
+fn alone(brief: Brief) -> Reply
+    requires { is_kind_alone brief ≡ true }
+    ensures { result ≡ numbers_of brief }
+{
+    match brief {
+        Brief::Joined => of_kind(0),
+        Brief::Set => of_kind(2),
+        Brief::Released => of_kind(6),
+        Brief::Ba { .. } => of_kind(7),
+        Brief::Slept => of_kind(9),
+        Brief::Woken => of_kind(10),
+        Brief::Stopped => of_kind(15),
+        Brief::Started => of_kind(16),
+        Brief::Marked => of_kind(17),
+        Brief::Ack => of_kind(19),
+        Brief::Begun => of_kind(21),
+        Brief::Freed => of_kind(22),
+        _ => BLANK,
     }
 }
 
@@ -179,23 +199,39 @@ fn requested(request: Option<u16>) -> Reply
     }
 }
 
-// The answer to a pull that is no batch.
+// The flags of how an exchange sends its frames: whether the device numbers them, and whether it is one frame
+// without an agreement.
+fn flags_of_kind(kind: Kind) -> (u8, u8)
+    ensures { result ≡ (flag_of (is_batch_kind kind), flag_of (is_plain_kind kind)) }
+{
+    match kind {
+        Kind::Aggregate => (0, 0),
+        Kind::Batch => (1, 0),
+        Kind::Plain => (0, 1),
+    }
+}
+
+// The answer to a pull.
 fn sending(
     exchange: u64,
     station: u16,
     tid: u8,
     air: u32,
     request: Option<u16>,
+    kind: Kind,
     more: bool,
 ) -> Reply
-    ensures { result ≡ numbers_of (Send exchange station tid air request false more) }
+    ensures { result ≡ numbers_of (Send exchange station tid air request kind more) }
 {
+    let (batch, plain) = flags_of_kind(kind);
     Reply {
         exchange,
         station,
         tid,
         air,
         more: u8::from(more),
+        batch,
+        plain,
         ..requested(request)
     }
 }
@@ -245,6 +281,7 @@ fn refused(refusal: Refusal) -> Reply
         Refusal::Full { count } => Reply { count, ..reply },
         Refusal::Debt { deficit } => Reply { deficit, ..reply },
         Refusal::Ahead { owed } => Reply { air: owed, ..reply },
+        Refusal::Waits { count } => Reply { count, ..reply },
         // end refusals
         _ => reply,
     }

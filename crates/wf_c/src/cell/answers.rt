@@ -25,7 +25,7 @@ impl PassedUp {
         ensures { ShowsPassedUp self.new answer.now.brief answer.now.ids }
     {
         match answer.brief {
-            Brief::Released => self.show_ids(&answer.ids),
+            Brief::Released | Brief::Ceased { .. } => self.show_ids(&answer.ids),
             _ => self.count = 0,
         }
     }
@@ -91,8 +91,7 @@ impl Block {
     }
 }
 
-/// Shows the frames of the aggregate or the batch that the last call sends; if it sends none, their count is
-/// 0.
+/// Shows the frames that the last call sends; if it sends none, their count is 0.
 #[unsafe(no_mangle)]
 pub extern "C" fn wf_cell_frames(cell: &mut CellSlot, frames: &mut Frames)
     requires open { is_some cell.old.value ≡ true }

@@ -30,7 +30,7 @@ pub struct CallNumbers {
     pub octets: u32,
     /// The station.
     pub station: u16,
-    /// The window of a join, in frames.
+    /// The window of a join or of an agreement, in frames.
     pub window: u16,
     /// The first sequence number of a join.
     pub start: u16,
@@ -40,9 +40,9 @@ pub struct CallNumbers {
     pub length: u16,
     /// The guard interval of a rate of HE, in nanoseconds.
     pub guard: u16,
-    /// The kind of call: 0 to 21.
+    /// The kind of call: 0 to 26.
     pub kind: u8,
-    /// The TID of a frame or of a flush.
+    /// The TID of a frame, of a flush or of an agreement.
     pub tid: u8,
     /// The class of a pull, or of airtime that a station used: 0 to 3.
     pub class: u8,

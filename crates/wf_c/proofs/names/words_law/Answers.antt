@@ -3,9 +3,9 @@ use Rattle.std.proofs.Common.{◌≡◌, refl, ℕ, List}
 use Rattle.std.specs.Prelude.{Some, None, pos}
 use Rattle.wf_frame.specs.Answers.{reply_with}
 use Rattle.wf_frame.specs.declared.answers.Brief.{Brief}
-use Rattle.wf_frame.specs.declared.answers.Brief.TheVariants.{Joined, Set, Now, Accepted, Send, Released, Ba, Done, Slept, Woken, Polled, Charged, Reaped, Stopped, Started, Marked, Refused}
+use Rattle.wf_frame.specs.declared.answers.Brief.TheVariants.{Joined, Set, Now, Accepted, Send, Released, Ba, Done, Slept, Woken, Polled, Charged, Reaped, Stopped, Started, Marked, Ack, Begun, Freed, Refused}
 use Rattle.wf_frame.specs.declared.answers.Brief.TheVariants as brief
-use Rattle.wf_frame.specs.declared.classes.Cause.TheVariants.{Overlimit, Codel, Retries, Left, Flushed}
+use Rattle.wf_frame.specs.declared.classes.Cause.TheVariants.{Overlimit, Codel, Retries, Left, Flushed, Ended}
 use Rattle.wf_frame.specs.declared.classes.Fate.{Fate}
 use Rattle.wf_frame.specs.declared.classes.Fate.TheVariants.{Held, Acked, Dropped}
 use Rattle.wf_frame.specs.declared.notes.Refusal.{Refusal}
@@ -30,8 +30,8 @@ kinds_are Set pairs ids = refl
 kinds_are (Now now) pairs ids = refl
 kinds_are (Accepted id None) pairs ids = refl
 kinds_are (Accepted id (Some dropped)) pairs ids = refl
-kinds_are (Send exchange station tid air None batch more) pairs ids = refl
-kinds_are (Send exchange station tid air (Some start) batch more) pairs ids = refl
+kinds_are (Send exchange station tid air None kind more) pairs ids = refl
+kinds_are (Send exchange station tid air (Some start) kind more) pairs ids = refl
 kinds_are Released pairs ids = refl
 kinds_are (Ba start b0 b1 b2 b3 wide) pairs ids = refl
 kinds_are (Done acked waiting failed) pairs ids = refl
@@ -44,6 +44,11 @@ kinds_are Stopped pairs ids = refl
 kinds_are Started pairs ids = refl
 kinds_are Marked pairs ids = refl
 kinds_are (brief.Flushed dropped) pairs ids = refl
+kinds_are Ack pairs ids = refl
+kinds_are (brief.Held start) pairs ids = refl
+kinds_are Begun pairs ids = refl
+kinds_are Freed pairs ids = refl
+kinds_are (brief.Ceased dropped) pairs ids = refl
 -- begin refusals: tools/tables writes these lines
 kinds_are (Refused (refusal.Open count)) pairs ids = refl
 kinds_are (Refused (refusal.Room inside)) pairs ids = refl
@@ -51,6 +56,7 @@ kinds_are (Refused (refusal.Sleeping queued)) pairs ids = refl
 kinds_are (Refused (refusal.Full count)) pairs ids = refl
 kinds_are (Refused (refusal.Debt deficit)) pairs ids = refl
 kinds_are (Refused (refusal.Ahead owed)) pairs ids = refl
+kinds_are (Refused (refusal.Waits count)) pairs ids = refl
 -- end refusals
 kinds_are (Refused _) pairs ids = refl
 
@@ -62,6 +68,7 @@ fates_are (Dropped Codel) = refl
 fates_are (Dropped Retries) = refl
 fates_are (Dropped Left) = refl
 fates_are (Dropped Flushed) = refl
+fates_are (Dropped Ended) = refl
 
 pub returns-clause-refusals : goal.returns-clause-refusals
 returns-clause-refusals c = refusals_are

@@ -46,10 +46,12 @@ loop-i-preserved c =
     let call = get_or c.args.calls.now c.loop-i.i blank_call in
     let noted_is : call_noted call ≡ Some c.in-Some.note = sym c.call_noted.ensures ∙ c.in-Some.is in (
       one_more_call IsMadeAt c.args.self.now c.loop-i.self c.make.new.self c.args.calls.now c.loop-i.replies
-          c.put_answer.new.replies c.loop-i.i call (numbers_of c.make.new.self.answer.brief) c.loop-i.invariant.0
+          c.put_answer.new.replies c.loop-i.i call (numbers_of c.make.new.self.answer.brief)
+          c.loop-i.invariant.0
           (call_at c.args.calls.now c.loop-i.i c.loop-i-test.true) c.put_answer.ensures.put
           c.put_answer.ensures.before
-          (of_shown (λ note. IsMade note c.loop-i.self c.make.new.self (numbers_of c.make.new.self.answer.brief)) (call_noted call)
+          (of_shown (λ note. IsMade note c.loop-i.self c.make.new.self
+          (numbers_of c.make.new.self.answer.brief)) (call_noted call)
           c.in-Some.note noted_is c.in-Ok.ensures.made),
       (
         rest_stays c.args.replies.now c.loop-i.replies c.put_answer.new.replies c.loop-i.i

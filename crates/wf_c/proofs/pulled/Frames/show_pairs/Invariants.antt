@@ -4,5 +4,5 @@ use Rattle.wf_c.specs.Pulled.{ShowsPair, pairs_shown}
 use Rattle.wf_c.proofs.pulled.Frames.show_pairs.Given as goal
 
 abbrev pub invariant-loop-i : goal.invariant-loop-i
-invariant-loop-i l = (k : ℕ) (pair : ℕ × ℕ) → k < l.i → slice_get (pairs_shown l.batch l.pairs) k ≡ Some pair →
-    ShowsPair l.self k pair
+invariant-loop-i l = (k : ℕ) (pair : ℕ × ℕ) → k < l.i →
+    slice_get (pairs_shown l.batch l.pairs) k ≡ Some pair → ShowsPair l.self k pair
