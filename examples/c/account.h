@@ -1,5 +1,5 @@
 /*
- * An account of packets, for the drivers ring.c, firmware.c and reset.c. Each packet has a number, which is its
+ * An account of packets, for the drivers ring.c, firmware.c, reset.c and addba.c. Each packet has a number, which is its
  * tag. It has to come back from the path exactly once, and the path has to count as many transmissions of it as
  * the device made.
  */
@@ -11,7 +11,7 @@
 
 #include "wf.h"
 
-enum { PACKETS = 6000, OCTETS = 1000, FATES = WF_FLUSHED + 1 };
+enum { PACKETS = 6000, OCTETS = 1000, FATES = WF_ENDED + 1 };
 
 struct account {
   uint8_t is_inside[PACKETS]; /* by number: 1 while the path has the packet */
@@ -72,7 +72,8 @@ static inline int account_fits(const struct account *account, const struct wf_pa
   return account->faults == 0 && account_is_closed(account) && tally.accepted == account->given &&
          tally.acked == account->fates[WF_ACKED] && tally.overlimit == account->fates[WF_OVERLIMIT] &&
          tally.codel == account->fates[WF_CODEL] && tally.retries == account->fates[WF_RETRIES] &&
-         tally.left == account->fates[WF_LEFT] && tally.flushed == account->fates[WF_FLUSHED];
+         tally.left == account->fates[WF_LEFT] && tally.flushed == account->fates[WF_FLUSHED] &&
+         tally.ended == account->fates[WF_ENDED];
 }
 
 /* Prints how many packets came back, by their fates. */

@@ -33,38 +33,50 @@ static void fail(const char *what) {
   exit(1);
 }
 
-static void write_released(void) {
-  struct wf_passed_up up = {0};
+static void write_kind(void) {
   char kind[WF_NAME] = {0};
-  uint16_t i;
-  wf_cell_released(&cell, &up);
   wf_kind_name(reply.kind, kind);
   fprintf(answers, "%s", kind);
-  for (i = 0; i < up.count; i++) fprintf(answers, " %llu", (unsigned long long)up.ids[i]);
+}
+
+/* Writes how many frames the end of an agreement dropped, and the frames that the station passed up. */
+static void write_released(const struct wf_passed_up *up) {
+  uint16_t i;
+  write_kind();
+  if (reply.kind == WF_KIND_CEASED) fprintf(answers, " %lu", (unsigned long)reply.count);
+  for (i = 0; i < up->count; i++) fprintf(answers, " %llu", (unsigned long long)up->ids[i]);
   fprintf(answers, "\n");
 }
 
 static void write_block(void) {
   struct wf_block block = {0};
-  char kind[WF_NAME] = {0};
   int i;
   wf_cell_block(&cell, &block);
-  wf_kind_name(reply.kind, kind);
-  fprintf(answers, "%s %u ", kind, (unsigned)block.start);
+  write_kind();
+  fprintf(answers, " %u ", (unsigned)block.start);
   for (i = block.wide ? 3 : 0; i >= 0; i--) fprintf(answers, "%016llx", (unsigned long long)block.bits[i]);
+  fprintf(answers, "\n");
+}
+
+static void write_ack(void) {
+  write_kind();
   fprintf(answers, "\n");
 }
 
 /* Writes the answer to the last call. */
 static void write_answer(int32_t code) {
   struct wf_frames frames = {0};
+  struct wf_passed_up up = {0};
+  int has_up = reply.kind == WF_KIND_RELEASED || reply.kind == WF_KIND_CEASED;
   if (code != reply.refusal) fail("a code that is not the reply's");
   wf_cell_frames(&cell, &frames);
+  wf_cell_released(&cell, &up);
   if (frames.count && (reply.kind != WF_KIND_SEND || reply.request)) fail("frames that nothing sends");
-  if (write_words(answers, &reply, &frames)) return;
-  if (reply.kind == WF_KIND_RELEASED) write_released();
+  if (up.count && !has_up) fail("frames that no station passes up");
+  if (has_up) write_released(&up);
   else if (reply.kind == WF_KIND_BA) write_block();
-  else fail("an answer of no cell");
+  else if (reply.kind == WF_KIND_ACK) write_ack();
+  else if (!write_words(answers, &reply, &frames)) fail("an answer of no cell");
 }
 
 /* Updates the list of open exchanges by the last answer. */
@@ -90,9 +102,11 @@ static uint64_t some_exchange(void) {
 static uint8_t some_kind(void) {
   static const uint8_t KINDS[] = {WF_CALL_PULL, WF_CALL_PULL, WF_CALL_PULL, WF_CALL_ARRIVE, WF_CALL_ARRIVE, WF_CALL_ARRIVE, WF_CALL_ARRIVE,
                                   WF_CALL_ARRIVE, WF_CALL_ARRIVE, WF_CALL_ANSWER, WF_CALL_ANSWER, WF_CALL_DONE, WF_CALL_DONE, WF_CALL_UNSENT, WF_CALL_GIVEUP};
+  static const uint8_t MODES[] = {WF_CALL_HOLD, WF_CALL_BEGIN, WF_CALL_BEGIN, WF_CALL_FREE, WF_CALL_CEASE};
   uint8_t kind;
   if (below(8)) return KINDS[below(sizeof KINDS)];
-  kind = (uint8_t)below(WF_CALL_WEIGHT);
+  if (below(4) == 0) return MODES[below(sizeof MODES)];
+  kind = (uint8_t)below(WF_CALL_CEASE);
   return (uint8_t)(kind < WF_CALL_REAP ? kind : kind + 1);
 }
 
@@ -246,6 +260,13 @@ static void write_entry(uint64_t place) {
     case WF_CALL_FLUSH: fprintf(trace, "flush %u %u\n", s, (unsigned)c.tid); break;
     case WF_CALL_OFFLOAD: fprintf(trace, "offload %u %u %u\n", s, (unsigned)c.exponent, (unsigned)c.weight); break;
     case WF_CALL_WEIGHT: fprintf(trace, "weight %u %u\n", s, (unsigned)c.weight); break;
+    case WF_CALL_PLAIN:
+      fprintf(trace, "plain %u %u %u %u\n", s, (unsigned)c.start, (unsigned)c.exponent, (unsigned)c.weight);
+      break;
+    case WF_CALL_HOLD: fprintf(trace, "hold %u %u\n", s, (unsigned)c.tid); break;
+    case WF_CALL_BEGIN: fprintf(trace, "begin %u %u %u\n", s, (unsigned)c.tid, (unsigned)c.window); break;
+    case WF_CALL_FREE: fprintf(trace, "free %u %u\n", s, (unsigned)c.tid); break;
+    case WF_CALL_CEASE: fprintf(trace, "cease %u %u\n", s, (unsigned)c.tid); break;
     default: fail("an entry of no kind");
   }
 }

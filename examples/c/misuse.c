@@ -125,6 +125,11 @@ static void misuse_stations(void) {
   const uint16_t none = STATIONS;
   want(wf_path_join(&path, none, 64, 0, 3, 1, &reply), WF_BAD_STATION, "wf_path_join");
   want(wf_path_join_offload(&path, none, 3, 1, &reply), WF_BAD_STATION, "wf_path_join_offload");
+  want(wf_path_plain(&path, none, 0, 3, 1, &reply), WF_BAD_STATION, "wf_path_plain");
+  want(wf_path_hold(&path, none, 0, &reply), WF_BAD_STATION, "wf_path_hold");
+  want(wf_path_begin(&path, none, 0, 64, &reply), WF_BAD_STATION, "wf_path_begin");
+  want(wf_path_free_tid(&path, none, 0, &reply), WF_BAD_STATION, "wf_path_free_tid");
+  want(wf_path_cease(&path, none, 0, &reply), WF_BAD_STATION, "wf_path_cease");
   want(wf_path_weight(&path, none, 1, &reply), WF_BAD_STATION, "wf_path_weight");
   want(wf_path_leave(&path, none, &reply), WF_BAD_STATION, "wf_path_leave");
   want(wf_path_rate_ht(&path, none, 7, 20, 0, &reply), WF_BAD_STATION, "wf_path_rate_ht");
@@ -139,6 +144,10 @@ static void misuse_stations(void) {
   want(wf_path_enqueue(&path, none, &packet, &reply), WF_BAD_STATION, "wf_path_enqueue");
   want(wf_path_join_offload(&path, 3, 4, 0, &reply), WF_BAD_EXPONENT, "an offloaded station of exponent 4");
   want(wf_path_join_offload(&path, 3, 3, 17, &reply), WF_BAD_WEIGHT, "an offloaded station of weight 17");
+  want(wf_path_hold(&path, 3, 0, &reply), WF_NO_STATION, "wf_path_hold");
+  want(wf_path_begin(&path, 3, 0, 64, &reply), WF_NO_STATION, "wf_path_begin");
+  want(wf_path_free_tid(&path, 3, 0, &reply), WF_NO_STATION, "wf_path_free_tid");
+  want(wf_path_cease(&path, 3, 0, &reply), WF_NO_STATION, "wf_path_cease");
   want(wf_path_weight(&path, 3, 17, &reply), WF_BAD_WEIGHT, "a weight of 17");
   want(wf_path_weight(&path, 3, 1, &reply), WF_NO_STATION, "wf_path_weight");
   want(wf_path_leave(&path, 3, &reply), WF_NO_STATION, "wf_path_leave");
@@ -175,6 +184,26 @@ static void misuse_addresses(void) {
   want(wf_path_set_address(&path, 2, REAL), WF_OK, "the same address for another");
 }
 
+/* Addresses of BSSs that are group addresses, and association identifiers that are out of their range. */
+static void misuse_bsses(void) {
+  static const uint8_t GROUP[6] = {0x01, 0, 0x5e, 0, 0, 1}, REAL[6] = {0x00, 0, 0x5e, 0, 0x53, 2};
+  uint8_t tim[256] = {0}, other[256] = {0};
+  want(wf_path_set_bss(&path, 2, GROUP), WF_BAD_ADDRESS, "a group for a BSS");
+  want(wf_path_set_bss(&path, STATIONS, REAL), WF_BAD_STATION, "the BSS of no station");
+  want(wf_path_set_bss(&path, 65535, GROUP), WF_BAD_STATION, "a group for the BSS of no station");
+  want(wf_path_set_aid(&path, 2, 0), WF_BAD_AID, "the association identifier 0");
+  want(wf_path_set_aid(&path, 2, 2008), WF_BAD_AID, "the association identifier 2008");
+  want(wf_path_set_aid(&path, STATIONS, 1), WF_BAD_STATION, "the association identifier of no station");
+  want(wf_path_set_aid(&path, 65535, 0), WF_BAD_STATION, "the association identifier 0 of no station");
+  want(wf_path_set_aid(&path, 3, 2007), WF_OK, "the association identifier of a station that is not live");
+  want(wf_path_set_bss(&path, 3, REAL), WF_OK, "the BSS of a station that is not live");
+  want(wf_path_tim(&path, tim) == 6, 1, "the TIM of stations without traffic");
+  want(wf_path_tim_of(&path, REAL, other) == 6, 1, "the TIM of a BSS without traffic");
+  unchanged(other, tim, sizeof other, "the TIM of a BSS without traffic");
+  want(wf_path_tim_of(&path, GROUP, other) == 6, 1, "the TIM of a BSS that there is not");
+  unchanged(other, tim, sizeof other, "the TIM of a BSS that there is not");
+}
+
 static void misuse_joins(void) {
   want(wf_path_join(&path, 3, 0, 0, 3, 1, &reply), WF_BAD_WINDOW, "a window of 0");
   want(wf_path_join(&path, 3, 257, 0, 3, 1, &reply), WF_BAD_WINDOW, "a window of 257");
@@ -183,6 +212,11 @@ static void misuse_joins(void) {
   want(wf_path_join(&path, 3, 64, 0, 3, 0, &reply), WF_BAD_WEIGHT, "a weight of 0");
   want(wf_path_join(&path, 3, 64, 0, 3, 17, &reply), WF_BAD_WEIGHT, "a weight of 17");
   want(wf_path_join(&path, 0, 64, 0, 3, 1, &reply), WF_LIVE, "a second join");
+  want(wf_path_plain(&path, 3, 4096, 4, 0, &reply), WF_BAD_START, "a start of 4096");
+  want(wf_path_plain(&path, 3, 4095, 4, 0, &reply), WF_BAD_EXPONENT, "an exponent of 4");
+  want(wf_path_plain(&path, 3, 4095, 3, 0, &reply), WF_BAD_WEIGHT, "a weight of 0");
+  want(wf_path_plain(&path, 0, 4095, 3, 17, &reply), WF_BAD_WEIGHT, "a weight of 17");
+  want(wf_path_plain(&path, 0, 0, 3, 1, &reply), WF_LIVE, "a second join");
 }
 
 static void misuse_rates(void) {
@@ -318,7 +352,9 @@ static void misuse_bursts(void) {
   misuse_burst(call, WF_OK, "the end of no exchange");
   call.kind = WF_CALL_UNSENT;
   misuse_burst(call, WF_OK, "a mark of no exchange");
-  call.kind = WF_CALL_WEIGHT + 1;
+  call.kind = WF_CALL_HOLD;
+  misuse_burst(call, WF_OK, "a hold of a TID with an agreement");
+  call.kind = WF_CALL_CEASE + 1;
   misuse_burst(call, WF_BAD_CALL, "a call of no kind");
   call.kind = WF_CALL_PULL;
   call.class_ = 4;
@@ -459,6 +495,10 @@ static void misuse_batch(void) {
   struct wf_taken taken = {0};
   want(wf_path_join_offload(&path, 3, 3, 1, &reply), WF_OK, "wf_path_join_offload");
   want(wf_path_join_offload(&path, 3, 3, 1, &reply), WF_LIVE, "a second join");
+  want(wf_path_hold(&path, 3, 0, &reply), WF_OFFLOADED, "a hold of an offloaded station");
+  want(wf_path_begin(&path, 3, 0, 64, &reply), WF_NOT_HELD, "an agreement of an offloaded station");
+  want(wf_path_free_tid(&path, 3, 0, &reply), WF_NOT_HELD, "wf_path_free_tid of an offloaded station");
+  want(wf_path_cease(&path, 3, 0, &reply), WF_NOT_AGREED, "wf_path_cease of an offloaded station");
   want(wf_path_enqueue(&path, 3, &packet, &reply), WF_OK, "wf_path_enqueue");
   want(wf_path_pull(&path, WF_BE, &reply, &frames), WF_OK, "a pull of a batch");
   want(reply.batch && frames.count == 1 && frames.numbers[0] == 0, 1, "the answer to a pull of a batch");
@@ -466,6 +506,97 @@ static void misuse_batch(void) {
   want(reply.failed, 1, "a frame that fails");
   want(wf_path_reap(&path, &reply, &taken, NULL, 0), WF_OK, "wf_path_reap");
   want(taken.fate, WF_RETRIES, "the fate of a frame of a lost batch");
+  want(wf_path_leave(&path, 3, &reply), WF_OK, "wf_path_leave");
+}
+
+/* Ends an agreement while frames of it are on the air, and then while they wait: they are dropped. */
+static void misuse_ceases(void) {
+  static const uint8_t body[100];
+  const struct wf_packet packet = packet_of(0, body, sizeof body);
+  struct wf_taken taken = {0};
+  uint64_t exchange;
+  int i;
+  for (i = 0; i < 2; i++) want(wf_path_enqueue(&path, 1, &packet, &reply), WF_OK, "wf_path_enqueue");
+  want(wf_path_pull(&path, WF_BE, &reply, &frames), WF_OK, "a pull");
+  exchange = reply.exchange;
+  want(reply.plain, 0, "an aggregate");
+  want(wf_path_cease(&path, 1, 0, &reply), WF_OPEN, "wf_path_cease with an open exchange");
+  want((int32_t)reply.count, 1, "the open exchanges of a TID");
+  want(wf_path_done_ack(&path, exchange, 1, CHARGE + 1, &reply), WF_BAD_INDEX, "an Ack of two frames");
+  want(wf_path_done_lost(&path, exchange, 0, &reply), WF_OK, "wf_path_done_lost");
+  want(wf_path_cease(&path, 1, 0, &reply), WF_OK, "wf_path_cease");
+  want(reply.count == 2 && reply.kind == WF_KIND_CEASED, 1, "the answer to the end of an agreement");
+  for (i = 0; i < 2; i++) {
+    want(wf_path_reap(&path, &reply, &taken, NULL, 0), WF_OK, "wf_path_reap");
+    want(taken.fate == WF_ENDED && taken.attempts == 1, 1, "a frame that was dropped with its agreement");
+  }
+}
+
+/* Changes a TID that is in another mode. Station 1 has agreements. */
+static void misuse_modes(void) {
+  want(wf_path_hold(&path, 1, 8, &reply), WF_BAD_TID, "a hold of TID 8");
+  want(wf_path_begin(&path, 1, 8, 0, &reply), WF_BAD_TID, "an agreement of TID 8");
+  want(wf_path_free_tid(&path, 1, 8, &reply), WF_BAD_TID, "wf_path_free_tid of TID 8");
+  want(wf_path_cease(&path, 1, 8, &reply), WF_BAD_TID, "wf_path_cease of TID 8");
+  want(wf_path_hold(&path, 1, 0, &reply), WF_AGREED, "a hold of a TID with an agreement");
+  want(wf_path_begin(&path, 1, 0, 64, &reply), WF_NOT_HELD, "a second agreement");
+  want(wf_path_free_tid(&path, 1, 0, &reply), WF_NOT_HELD, "wf_path_free_tid of a TID with an agreement");
+  misuse_ceases();
+  want(wf_path_cease(&path, 1, 0, &reply), WF_NOT_AGREED, "a second wf_path_cease");
+  want(wf_path_hold(&path, 1, 0, &reply), WF_TID_HELD, "a hold of a TID that is held");
+  want(wf_path_begin(&path, 1, 0, 0, &reply), WF_BAD_WINDOW, "an agreement with a window of 0");
+  want(wf_path_begin(&path, 1, 0, 257, &reply), WF_BAD_WINDOW, "an agreement with a window of 257");
+  want(wf_path_free_tid(&path, 1, 0, &reply), WF_OK, "wf_path_free_tid");
+  want(reply.kind, WF_KIND_FREED, "the answer to wf_path_free_tid");
+  want(wf_path_free_tid(&path, 1, 0, &reply), WF_NOT_HELD, "a second wf_path_free_tid");
+  want(wf_path_cease(&path, 1, 0, &reply), WF_NOT_AGREED, "wf_path_cease of a plain TID");
+  want(wf_path_hold(&path, 1, 0, &reply), WF_OK, "a hold");
+  want(reply.start == 2 && reply.kind == WF_KIND_HELD, 1, "the answer to a hold");
+  want(wf_path_begin(&path, 1, 0, 256, &reply), WF_OK, "wf_path_begin");
+  want(reply.kind, WF_KIND_BEGUN, "the answer to wf_path_begin");
+}
+
+/* Ends a plain exchange by an Ack: one that is not open, with too much airtime, with a mark, and twice. */
+static void misuse_acks(uint64_t exchange) {
+  want(wf_path_done_ack(&path, exchange + 1, 1, CHARGE + 1, &reply), WF_NO_EXCHANGE, "an Ack of no exchange");
+  want(wf_path_done_ack(&path, exchange, 1, CHARGE + 1, &reply), WF_BAD_AIR, "too much airtime");
+  want(wf_path_unsent(&path, exchange, 0, &reply), WF_OK, "wf_path_unsent");
+  want(wf_path_done_ack(&path, exchange, 0, CHARGE + 1, &reply), WF_MARKED, "an Ack after a mark");
+  want(wf_path_done_lost(&path, exchange, 0, &reply), WF_OK, "the end of what was not sent");
+  want(wf_path_begin(&path, 3, 0, 64, &reply), WF_WAITS, "an agreement while a frame waits");
+  want((int32_t)reply.count, 1, "the frames that wait");
+  want(wf_path_pull(&path, WF_BE, &reply, &frames), WF_OK, "a second pull");
+  want(frames.count == 1 && frames.numbers[0] == 4095, 1, "the number of a frame that waited");
+  exchange = reply.exchange;
+  want(wf_path_done_ack(&path, exchange, 2, CHARGE, &reply), WF_OK, "wf_path_done_ack");
+  want(reply.acked, 1, "an acknowledged frame");
+  want(wf_path_done_ack(&path, exchange, 1, 0, &reply), WF_NO_EXCHANGE, "a second Ack");
+}
+
+/* A station without agreements, one of whose TIDs gets one while a frame is on the air. */
+static void misuse_plain(void) {
+  static const uint8_t body[100];
+  const struct wf_packet packet = packet_of(0, body, sizeof body);
+  struct wf_taken taken = {0};
+  uint32_t flying = 7, drained = 7;
+  want(wf_path_plain(&path, 3, 4095, 3, 1, &reply), WF_OK, "wf_path_plain");
+  want(wf_path_enqueue(&path, 3, &packet, &reply), WF_OK, "wf_path_enqueue");
+  want(wf_path_pull(&path, WF_BE, &reply, &frames), WF_OK, "a pull of a plain exchange");
+  want(reply.plain == 1 && frames.count == 1, 1, "the answer to a pull of a plain exchange");
+  want(wf_path_begin(&path, 3, 0, 64, &reply), WF_NOT_HELD, "an agreement of a plain TID");
+  want(wf_path_hold(&path, 3, 0, &reply), WF_OK, "a hold");
+  want(reply.start, 0, "the number after 4095");
+  want(wf_path_begin(&path, 3, 0, 64, &reply), WF_OPEN, "an agreement while a frame is on the air");
+  want((int32_t)reply.count, 1, "the open exchanges of a TID");
+  want(wf_path_flying(&path, 3, 0, &flying), WF_OK, "wf_path_flying");
+  want(wf_path_drained(&path, 3, 0, &drained), WF_OK, "wf_path_drained");
+  want(flying == 1 && drained == 0, 1, "a frame on the air");
+  misuse_acks(wf_path_exchanges(&path) - 1);
+  want(wf_path_drained(&path, 3, 0, &drained), WF_OK, "wf_path_drained");
+  want(drained == 1, 1, "a TID that is drained");
+  want(wf_path_begin(&path, 3, 0, 64, &reply), WF_OK, "wf_path_begin");
+  want(wf_path_reap(&path, &reply, &taken, NULL, 0), WF_OK, "wf_path_reap");
+  want(taken.attempts, 1, "the attempts of a frame that was sent once");
   want(wf_path_leave(&path, 3, &reply), WF_OK, "wf_path_leave");
 }
 
@@ -544,13 +675,19 @@ static void misuse_sleepers(void) {
 
 /* Reads counts of TIDs and stations that do not exist. */
 static void misuse_counts(void) {
-  uint32_t count = 7;
+  uint32_t count = 7, flying = 7, drained = 7;
   want(wf_path_queued(&path, 0, 8, &count), WF_BAD_TID, "wf_path_queued");
   want(wf_path_waiting(&path, 0, 8, &count), WF_BAD_TID, "wf_path_waiting");
   want(wf_path_queued(&path, 3, 8, &count), WF_BAD_TID, "wf_path_queued");
   want(wf_path_queued(&path, 3, 0, &count), WF_NO_STATION, "wf_path_queued");
   want(wf_path_waiting(&path, 65535, 7, &count), WF_NO_STATION, "wf_path_waiting");
-  want(count == 7, 1, "a count of no TID");
+  want(wf_path_flying(&path, 3, 8, &flying), WF_BAD_TID, "wf_path_flying");
+  want(wf_path_flying(&path, 3, 7, &flying), WF_NO_STATION, "wf_path_flying");
+  want(wf_path_flying(&path, 65535, 255, &flying), WF_BAD_TID, "wf_path_flying");
+  want(wf_path_drained(&path, 3, 8, &drained), WF_BAD_TID, "wf_path_drained");
+  want(wf_path_drained(&path, 3, 7, &drained), WF_NO_STATION, "wf_path_drained");
+  want(wf_path_drained(&path, 65535, 255, &drained), WF_BAD_TID, "wf_path_drained");
+  want(count == 7 && flying == 7 && drained == 7, 1, "a count of no TID");
   want(wf_path_queued(&path, 0, 7, &count), WF_OK, "wf_path_queued");
   want(count == 0, 1, "the frames of a new station");
   want(wf_path_can_pull(&path, WF_BE), 0, "a pull that would be refused");
@@ -580,6 +717,7 @@ static void misuse_path(void) {
   misuse_stations();
   misuse_counts();
   misuse_addresses();
+  misuse_bsses();
   misuse_joins();
   misuse_rates();
   misuse_clock();
@@ -600,7 +738,12 @@ static void misuse_path(void) {
   misuse_ends();
   misuse_flushes();
   misuse_batch();
+  misuse_plain();
   misuse_sleepers();
+  wf_path_free(&path);
+  want(wf_path_make(&path, &settings), WF_OK, "a path in the same handle");
+  want(wf_path_join(&path, 1, 64, 0, 3, 1, &reply), WF_OK, "wf_path_join");
+  misuse_modes();
   wf_path_free(&path);
 }
 
@@ -623,7 +766,7 @@ static void misuse_cell(void) {
   want(wf_cell_ask(&cell, 0, &call, &reply), WF_BAD_CALL, "a frame without its body");
   call.kind = WF_CALL_REAP;
   want(wf_cell_ask(&cell, 0, &call, &reply), WF_BAD_CALL, "a reap without its struct");
-  call.kind = WF_CALL_WEIGHT + 1;
+  call.kind = WF_CALL_CEASE + 1;
   want(wf_cell_ask(&cell, 0, &call, &reply), WF_BAD_CALL, "a call of no kind");
   call.kind = WF_CALL_RATE;
   call.form = WF_FORM_HE + 1;
@@ -659,14 +802,21 @@ static void misuse_cell(void) {
   wf_cell_free(&cell);
 }
 
-/* Numbers without a meaning. */
+/* Numbers without a meaning, and those that got one last. */
 static void misuse_names(void) {
-  static const int32_t NONE[] = {-1, 33, 39, 46, 50, 59, 100, WF_BAD_SETTING + PLACES + 1, INT32_MAX, INT32_MIN};
+  static const int32_t NONE[] = {-1, 39, 50, 59, 100, WF_BAD_SETTING + PLACES + 1, INT32_MAX, INT32_MIN};
+  static const int32_t SOME[] = {WF_OFFLOADED, WF_AGREED, WF_TID_HELD, WF_NOT_HELD, WF_NOT_AGREED, WF_WAITS, WF_BAD_AID};
+  static const char *const WORDS[] = {"offloaded", "agreed", "held", "not-held", "not-agreed", "waits", "bad-aid"};
   size_t i;
   for (i = 0; i < sizeof NONE / sizeof *NONE; i++) {
     char name[WF_NAME] = {0};
     wf_code_name(NONE[i], name);
     want(strcmp(name, "?"), 0, "the name of no code");
+  }
+  for (i = 0; i < sizeof SOME / sizeof *SOME; i++) {
+    char name[WF_NAME] = {0};
+    wf_code_name(SOME[i], name);
+    want(strcmp(name, WORDS[i]), 0, WORDS[i]);
   }
 }
 

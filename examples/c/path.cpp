@@ -1,6 +1,7 @@
 /*
  * Two stations join through the class of path.hpp, get a rate each, and get frames. One frame is lost on the
- * air and sent again. The path is freed at the end of main.
+ * air and sent again. Then a station joins without agreements; one begins and ends. The path is freed at the
+ * end of main.
  *
  *   c++ -std=c++17 -Iinclude examples/c/path.cpp -Lcrates/wf_c/out -lwf
  */
@@ -21,12 +22,10 @@ void want(std::int32_t code, const char *call) {
   std::exit(1);
 }
 
-/* Makes a station join, sets its rate, and enqueues `count` frames of 1000 octets for it. */
-void open_station(wf::Path &path, std::uint16_t station, std::uint8_t mcs, int frames) {
+/* Enqueues some frames of 1000 octets for a station. */
+void give_frames(wf::Path &path, std::uint16_t station, int frames) {
   static const std::array<std::uint8_t, 1000> body{0xaa, 0xaa, 0x03};
   wf_reply reply{};
-  want(path.join(station, 64, 0, 3, 1, reply), "join");
-  want(path.rate(station, mcs, 20, false, reply), "rate");
   wf_packet packet{};
   packet.body = body.data();
   packet.length = body.size();
@@ -35,6 +34,14 @@ void open_station(wf::Path &path, std::uint16_t station, std::uint8_t mcs, int f
     want(path.enqueue(station, packet, reply), "enqueue");
     std::printf("station %d: frame %d is accepted\n", static_cast<int>(station), static_cast<int>(reply.id));
   }
+}
+
+/* Makes a station join, sets its rate, and enqueues frames for it. */
+void open_station(wf::Path &path, std::uint16_t station, std::uint8_t mcs, int frames) {
+  wf_reply reply{};
+  want(path.join(station, 64, 0, 3, 1, reply), "join");
+  want(path.rate(station, mcs, 20, false, reply), "rate");
+  give_frames(path, station, frames);
 }
 
 /* Sets the address of the access point. */
@@ -86,6 +93,32 @@ void reap_all(wf::Path &path) {
   }
 }
 
+/* A station joins without agreements. Its first frame goes alone. Then an agreement begins, and ends while the
+ * other two frames wait to be sent again, so they are dropped. */
+void use_agreement(wf::Path &path, std::uint16_t station) {
+  wf_reply reply{};
+  static wf_frames frames;
+  std::uint32_t drained = 0;
+  want(path.plain(station, 4095, 3, 1, reply), "plain");
+  give_frames(path, station, 3);
+  want(path.pull(WF_BE, reply, frames), "pull");
+  const std::uint64_t alone = reply.exchange;
+  want(path.hold(station, 0, reply), "hold");
+  std::printf("exchange %d: number %d goes alone; an agreement may begin with %d\n", static_cast<int>(alone),
+              static_cast<int>(frames.numbers[0]), static_cast<int>(reply.start));
+  want(path.done_ack(alone, true, reply), "done_ack");
+  want(path.drained(station, 0, drained), "drained");
+  want(path.begin(station, 0, 64, reply), "begin");
+  want(path.pull(WF_BE, reply, frames), "pull");
+  std::printf("drained: %d; exchange %d: %d frames from number %d on\n", static_cast<int>(drained),
+              static_cast<int>(reply.exchange), static_cast<int>(frames.count), static_cast<int>(frames.numbers[0]));
+  want(path.done_lost(reply.exchange, reply), "done_lost");
+  want(path.cease(station, 0, reply), "cease");
+  std::printf("the agreement ended: %d frames are dropped\n", static_cast<int>(reply.count));
+  want(path.free_tid(station, 0, reply), "free_tid");
+  reap_all(path);
+}
+
 }  // namespace
 
 int main() {
@@ -96,7 +129,7 @@ int main() {
   std::printf("no stations: code %d, the setting %s\n", static_cast<int>(code),
               wf::setting_name(code - WF_BAD_SETTING).c_str());
 
-  settings.stations = 2;
+  settings.stations = 3;
   std::optional<wf::Path> made = wf::Path::make(settings, code);
   if (!made) return 1;
   wf::Path path = std::move(*made);
@@ -111,9 +144,10 @@ int main() {
     lost = UINT64_MAX;
     reap_all(path);
   }
+  use_agreement(path, 2);
   const wf_tally tally = path.tally();
-  std::printf("%d exchanges in %d microseconds: %d frames accepted, %d acknowledged\n",
-              static_cast<int>(path.exchanges()), static_cast<int>(path.now()),
-              static_cast<int>(tally.accepted), static_cast<int>(tally.acked));
+  std::printf("%d exchanges in %d microseconds: %d frames accepted, %d acknowledged, %d ended\n",
+              static_cast<int>(path.exchanges()), static_cast<int>(path.now()), static_cast<int>(tally.accepted),
+              static_cast<int>(tally.acked), static_cast<int>(tally.ended));
   return 0;
 }

@@ -91,6 +91,12 @@ class Path {
   [[nodiscard]] std::int32_t set_address(std::uint16_t station, const std::uint8_t (&address)[6]) {
     return wf_path_set_address(&handle_, station, address);
   }
+  [[nodiscard]] std::int32_t set_bss(std::uint16_t station, const std::uint8_t (&address)[6]) {
+    return wf_path_set_bss(&handle_, station, address);
+  }
+  [[nodiscard]] std::int32_t set_aid(std::uint16_t station, std::uint16_t aid) {
+    return wf_path_set_aid(&handle_, station, aid);
+  }
   void base(std::uint8_t (&out)[6]) const { wf_path_base(&handle_, out); }
   [[nodiscard]] std::int32_t address(std::uint16_t station, std::uint8_t (&out)[6]) const {
     return wf_path_address(&handle_, station, out);
@@ -105,6 +111,22 @@ class Path {
   [[nodiscard]] std::int32_t join_offload(std::uint16_t station, std::uint8_t exponent, std::uint8_t weight,
                                           wf_reply &reply) {
     return wf_path_join_offload(&handle_, station, exponent, weight, &reply);
+  }
+  [[nodiscard]] std::int32_t plain(std::uint16_t station, std::uint16_t start, std::uint8_t exponent,
+                                   std::uint8_t weight, wf_reply &reply) {
+    return wf_path_plain(&handle_, station, start, exponent, weight, &reply);
+  }
+  [[nodiscard]] std::int32_t hold(std::uint16_t station, std::uint8_t tid, wf_reply &reply) {
+    return wf_path_hold(&handle_, station, tid, &reply);
+  }
+  [[nodiscard]] std::int32_t begin(std::uint16_t station, std::uint8_t tid, std::uint16_t window, wf_reply &reply) {
+    return wf_path_begin(&handle_, station, tid, window, &reply);
+  }
+  [[nodiscard]] std::int32_t free_tid(std::uint16_t station, std::uint8_t tid, wf_reply &reply) {
+    return wf_path_free_tid(&handle_, station, tid, &reply);
+  }
+  [[nodiscard]] std::int32_t cease(std::uint16_t station, std::uint8_t tid, wf_reply &reply) {
+    return wf_path_cease(&handle_, station, tid, &reply);
   }
   [[nodiscard]] std::int32_t weight(std::uint16_t station, std::uint8_t weight, wf_reply &reply) {
     return wf_path_weight(&handle_, station, weight, &reply);
@@ -215,6 +237,9 @@ class Path {
   [[nodiscard]] std::int32_t done_lost(std::uint64_t exchange, wf_reply &reply, std::uint32_t air = 0) {
     return wf_path_done_lost(&handle_, exchange, air, &reply);
   }
+  [[nodiscard]] std::int32_t done_ack(std::uint64_t exchange, bool acked, wf_reply &reply, std::uint32_t air = 0) {
+    return wf_path_done_ack(&handle_, exchange, acked, air, &reply);
+  }
   [[nodiscard]] std::int32_t done_bits(std::uint64_t exchange, std::uint16_t start,
                                        const std::uint8_t (&bits)[32], wf_reply &reply,
                                        std::uint32_t air = 0) {
@@ -256,7 +281,16 @@ class Path {
   [[nodiscard]] std::int32_t waiting(std::uint16_t station, std::uint8_t tid, std::uint32_t &count) const {
     return wf_path_waiting(&handle_, station, tid, &count);
   }
+  [[nodiscard]] std::int32_t flying(std::uint16_t station, std::uint8_t tid, std::uint32_t &count) const {
+    return wf_path_flying(&handle_, station, tid, &count);
+  }
+  [[nodiscard]] std::int32_t drained(std::uint16_t station, std::uint8_t tid, std::uint32_t &out) const {
+    return wf_path_drained(&handle_, station, tid, &out);
+  }
   std::size_t tim(std::uint8_t (&out)[256]) const { return wf_path_tim(&handle_, out); }
+  std::size_t tim_of(const std::uint8_t (&bss)[6], std::uint8_t (&out)[256]) const {
+    return wf_path_tim_of(&handle_, bss, out);
+  }
 
  private:
   Path() = default;

@@ -6,8 +6,9 @@
  *   same CALLS SEED TRACE ANSWERS
  *
  * A replay has receivers, and a path does not. So this program keeps what arrives at a station, and passes it
- * to the library in BlockAcks, or as an outcome of each transmission. Only the receivers answer `arrive` and
- * `answer`, so these lines of the answers are `?`. An end by outcomes has a line for each mark that it sets.
+ * to the library in BlockAcks and Acks, or as an outcome of each transmission. Only the receivers answer `arrive`
+ * and `answer`, so these lines of the answers are `?`; and only they know which frames they pass up when an
+ * agreement ends, so the answer to `cease` ends with `?`. An end by outcomes has a line for each mark that it sets.
  */
 #include <stdint.h>
 #include <stdio.h>
@@ -17,7 +18,8 @@
 #include "words.h"
 #include "wf.h"
 
-enum { STATIONS = 6, NUMBERS = 4096, OPEN = 32, CHARGE = 5000, DEBT = 9000, TICK = 10000000, ATTEMPTS = 4, SETTINGS = 24, IDS = 1 << 20 };
+enum { STATIONS = 6, NUMBERS = 4096, OPEN = 32, CHARGE = 5000, DEBT = 9000, TICK = 10000000, ATTEMPTS = 4 };
+enum { SETTINGS = 24, IDS = 1 << 20, AIDS = 2008 };
 
 /* An open exchange. */
 struct exchange {
@@ -26,6 +28,7 @@ struct exchange {
   uint8_t tid;
   uint8_t request;
   uint8_t batch;
+  uint8_t plain;
   uint16_t start; /* of its BlockAckReq */
   struct wf_frames frames;
   uint8_t unsent[256]; /* by transmission: 1 if it is marked as one that never went on the air */
@@ -39,12 +42,14 @@ struct session {
 };
 
 static struct wf_path path;
-static uint8_t base[6] = {0x02}, addresses[STATIONS][6];
+static uint8_t base[6] = {0x02}, addresses[STATIONS][6], bsses[STATIONS][6];
+static uint8_t has_bss[STATIONS]; /* by station: 1 if wf_path_set_bss has set its own */
+static uint16_t aids[STATIONS];
 static struct wf_reply reply;
 static struct exchange exchanges[OPEN];
 static int open_count;
 static struct session sessions[STATIONS][8];
-static uint16_t windows[STATIONS];
+static uint16_t windows[STATIONS][8]; /* 1 without an agreement */
 static uint8_t given_up[IDS]; /* by id: 1 if a transmission of the frame was given up */
 static uint32_t seed;
 static long lines;
@@ -64,7 +69,8 @@ static void fail(const char *what) {
 static void write_answer(int32_t code, const struct wf_frames *frames) {
   lines++;
   if (code != reply.refusal) fail("a code that is not the reply's");
-  if (!write_words(answers, &reply, frames)) fail("an answer of no path");
+  if (reply.kind == WF_KIND_CEASED) fprintf(answers, "ceased %lu ?\n", (unsigned long)reply.count);
+  else if (!write_words(answers, &reply, frames)) fail("an answer of no path");
 }
 
 /* Writes a line of the trace that only the receivers answer. */
@@ -74,12 +80,27 @@ static void receivers_line(const char *word, uint64_t exchange, int index) {
   lines++;
 }
 
+/* Notes the window of all TIDs of a station. */
+static void note_windows(uint16_t s, uint16_t window) {
+  int tid;
+  for (tid = 0; tid < 8; tid++) windows[s][tid] = window;
+}
+
 static void call_join(uint16_t s) {
   uint16_t window = (uint16_t)(below(4) ? 1 + below(64) : 1 + below(257)), start = (uint16_t)below(4100);
   uint8_t exponent = (uint8_t)below(5), weight = (uint8_t)below(18);
   int32_t code = wf_path_join(&path, s, window, start, exponent, weight, &reply);
   fprintf(trace, "join %u %u %u %u %u\n", (unsigned)s, (unsigned)window, (unsigned)start, (unsigned)exponent, (unsigned)weight);
-  if (code == WF_OK) windows[s] = window;
+  if (code == WF_OK) note_windows(s, window);
+  write_answer(code, NULL);
+}
+
+static void call_plain(uint16_t s) {
+  uint16_t start = (uint16_t)below(4100);
+  uint8_t exponent = (uint8_t)below(5), weight = (uint8_t)below(18);
+  int32_t code = wf_path_plain(&path, s, start, exponent, weight, &reply);
+  fprintf(trace, "plain %u %u %u %u\n", (unsigned)s, (unsigned)start, (unsigned)exponent, (unsigned)weight);
+  if (code == WF_OK) note_windows(s, 1);
   write_answer(code, NULL);
 }
 
@@ -88,6 +109,54 @@ static void call_join_offload(uint16_t s) {
   int32_t code = wf_path_join_offload(&path, s, exponent, weight, &reply);
   fprintf(trace, "offload %u %u %u\n", (unsigned)s, (unsigned)exponent, (unsigned)weight);
   write_answer(code, NULL);
+}
+
+/* Compares the readers of a live station's TID with its open exchanges. */
+static void look_at_tid(uint16_t s, uint8_t tid) {
+  uint32_t wanted = 0, flying = 0, waiting = 0, drained = 2;
+  int i;
+  for (i = 0; i < open_count; i++) {
+    if (exchanges[i].station == s && exchanges[i].tid == tid) wanted += exchanges[i].frames.count;
+  }
+  if (wf_path_flying(&path, s, tid, &flying) || flying != wanted) fail("another number of frames on the air");
+  if (wf_path_waiting(&path, s, tid, &waiting) || wf_path_drained(&path, s, tid, &drained)) fail("no count of a live station");
+  if (drained != (flying == 0 && waiting == 0)) fail("drained, and not drained");
+}
+
+static void call_begin(uint16_t s, uint8_t tid) {
+  uint16_t window = (uint16_t)(below(4) ? 1 + below(64) : below(258));
+  int32_t code = wf_path_begin(&path, s, tid, window, &reply);
+  fprintf(trace, "begin %u %u %u\n", (unsigned)s, (unsigned)tid, (unsigned)window);
+  if (code == WF_OK) windows[s][tid] = window;
+  write_answer(code, NULL);
+}
+
+static void call_cease(uint16_t s, uint8_t tid) {
+  int32_t code = wf_path_cease(&path, s, tid, &reply);
+  fprintf(trace, "cease %u %u\n", (unsigned)s, (unsigned)tid);
+  if (code == WF_OK) windows[s][tid] = 1;
+  write_answer(code, NULL);
+}
+
+/* Changes the mode of a TID, sometimes of one that is in another mode. */
+static void call_mode(uint16_t s) {
+  uint8_t tid = (uint8_t)below(below(50) ? 8 : 10);
+  int32_t code;
+  if (tid < 8 && wf_path_live(&path, s)) look_at_tid(s, tid);
+  switch (below(5)) {
+    case 0:
+      code = wf_path_hold(&path, s, tid, &reply);
+      fprintf(trace, "hold %u %u\n", (unsigned)s, (unsigned)tid);
+      write_answer(code, NULL);
+      break;
+    case 1:
+      code = wf_path_free_tid(&path, s, tid, &reply);
+      fprintf(trace, "free %u %u\n", (unsigned)s, (unsigned)tid);
+      write_answer(code, NULL);
+      break;
+    case 2: call_cease(s, tid); break;
+    default: call_begin(s, tid); break;
+  }
 }
 
 /* Returns a width in MHz, sometimes one that no format has. */
@@ -178,13 +247,67 @@ static void call_address(void) {
   if (memcmp(told, base, 6)) fail("another address of the access point");
 }
 
+/* Returns the address of a station's access point. */
+static const uint8_t *bss_of(uint16_t s) {
+  return has_bss[s] ? bsses[s] : base;
+}
+
+/* Sets the address of a station's access point; sometimes a group address, or one for a station number that does not
+ * exist. The trace does not have it. */
+static void call_bss(void) {
+  uint8_t address[6] = {(uint8_t)(below(8) ? 6 : 7), 0, 0x5e, 0, 0x53, (uint8_t)below(3)};
+  uint16_t s = (uint16_t)below(STATIONS + 1);
+  int32_t wanted = s == STATIONS ? WF_BAD_STATION : address[0] % 2 ? WF_BAD_ADDRESS : WF_OK;
+  if (wf_path_set_bss(&path, s, address) != wanted) fail("another code of the address of a BSS");
+  if (wanted) return;
+  memcpy(bsses[s], address, 6);
+  has_bss[s] = 1;
+}
+
+/* Sets the association identifier of a station; sometimes one that is out of its range, or one for a station number
+ * that does not exist. Two stations may have the same. The trace does not have it. */
+static void call_aid(void) {
+  uint16_t s = (uint16_t)below(STATIONS + 1), aid = (uint16_t)(below(8) ? 1 + below(AIDS - 1) : AIDS * below(2));
+  int32_t wanted = s == STATIONS ? WF_BAD_STATION : aid == 0 || aid == AIDS ? WF_BAD_AID : WF_OK;
+  if (wf_path_set_aid(&path, s, aid) != wanted) fail("another code of an association identifier");
+  if (wanted == WF_OK) aids[s] = aid;
+}
+
+/* Notes the association identifiers that a TIM element shows. */
+static void note_tim(const uint8_t tim[256], size_t size, uint8_t shown[AIDS]) {
+  size_t first = 8u * (tim[4] & 0xfeu), i;
+  if (size < 6 || tim[0] != 5 || tim[1] + 2u != size) fail("no TIM element");
+  for (i = 0; i < 8 * (size - 5); i++) {
+    if (tim[5 + i / 8] >> i % 8 & 1) shown[first + i] = 1;
+  }
+}
+
+/* Checks that the TIM elements of all BSSs show together what that of the path shows, each for its own stations. */
+static void look_at_tims(void) {
+  uint8_t whole[AIDS] = {0}, together[AIDS] = {0}, tim[256] = {0};
+  uint16_t s;
+  note_tim(tim, wf_path_tim(&path, tim), whole);
+  for (s = 0; s < STATIONS; s++) {
+    uint8_t shown[AIDS] = {0};
+    uint16_t other;
+    note_tim(tim, wf_path_tim_of(&path, bss_of(s), tim), shown);
+    if (whole[aids[s]] == 0 && shown[aids[s]]) fail("a station in the TIM of its BSS alone");
+    for (other = 0; other < STATIONS; other++) {
+      if (memcmp(bss_of(s), bss_of(other), 6) == 0 && shown[aids[other]]) together[aids[other]] = 1, shown[aids[other]] = 0;
+    }
+    if (memcmp(shown, (uint8_t[AIDS]){0}, AIDS)) fail("a station in the TIM of another BSS");
+  }
+  if (memcmp(whole, together, AIDS)) fail("a station in no TIM of a BSS");
+}
+
 /* Compares the header and the tag of a transmission with its octets. Both have the station's number. */
 static void look_at_parts(const struct exchange *x, uint16_t index) {
   uint8_t whole[WF_GREATEST_MPDU] = {0}, header[WF_HEADER] = {0};
   size_t size = 0;
   uint64_t tag = 0;
   if (wf_path_mpdu(&path, x->number, index, whole, sizeof whole, &size)) fail("no octets");
-  if (memcmp(whole + 4, addresses[x->station], 6) || memcmp(whole + 10, base, 6)) fail("another address on the air");
+  if (memcmp(whole + 4, addresses[x->station], 6)) fail("another address on the air");
+  if (memcmp(whole + 10, bss_of(x->station), 6)) fail("another access point on the air");
   if (wf_path_header(&path, x->number, index, header) || memcmp(header, whole, WF_HEADER)) fail("another header");
   if (wf_path_frame_tag(&path, x->number, index, &tag) || (tag & 0xffff) != (size - WF_HEADER)) fail("another tag on the air");
 }
@@ -250,8 +373,10 @@ static void call_pull(void) {
   x->tid = reply.tid;
   x->request = reply.request;
   x->batch = reply.batch;
+  x->plain = reply.plain;
   x->start = reply.start;
   if (x->batch && x->request) fail("a batch that is a request");
+  if (x->plain && (x->batch || x->request || x->frames.count != 1)) fail("a plain exchange of other than one frame");
   if (!x->batch) note_frames(x);
   open_count++;
   look_at(x);
@@ -319,7 +444,7 @@ static uint16_t shown(const struct exchange *x, uint8_t bits[32]) {
 /* Ends an exchange by the octets of a BlockAck. */
 static int32_t done_octets(const struct exchange *x, uint16_t start, const uint8_t bits[32], uint32_t air) {
   uint8_t frame[WF_GREATEST_MPDU] = {0}, ack[52] = {0};
-  size_t size = 0, need = 0, length = windows[x->station] > 64 ? 52 : 28;
+  size_t size = 0, need = 0, length = windows[x->station][x->tid] > 64 ? 52 : 28;
   if (wf_path_mpdu(&path, x->number, 0, frame, 15, &need) != WF_SMALL_BUFFER) fail("room for a frame in 15 octets");
   if (wf_path_mpdu(&path, x->number, 0, frame, sizeof frame, &size) || size != need) fail("a frame of another size");
   ack[0] = 0x94;
@@ -353,7 +478,9 @@ static int32_t end_exchange(const struct exchange *x, int heard, uint32_t air) {
   uint8_t bits[32];
   uint16_t start;
   int32_t code = WF_BAD_AIR;
-  if (heard) {
+  if (x->plain && x->marks == 0 && below(2)) {
+    code = wf_path_done_ack(&path, x->number, (uint8_t)heard, air, &reply);
+  } else if (heard) {
     start = shown(x, bits);
     if (below(2)) code = done_octets(x, start, bits, air);
     if (code) code = wf_path_done_bits(&path, x->number, start, bits, air, &reply);
@@ -446,6 +573,8 @@ static void end_by_answer(const struct exchange *x) {
   int heard = arrive(x) && below(4);
   if (x->marks && wf_path_done_each(&path, x->number, outcomes, transmissions(x), 0, &reply) != WF_MARKED) fail("outcomes after a mark");
   if (x->marks && wf_path_cancel(&path, x->number, &reply) != WF_MARKED) fail("a cancelled exchange with a mark");
+  if (x->marks && x->plain && wf_path_done_ack(&path, x->number, 1, 0, &reply) != WF_MARKED) fail("an Ack after a mark");
+  if (transmissions(x) > 1 && wf_path_done_ack(&path, x->number, 1, 0, &reply) != WF_BAD_INDEX) fail("an Ack of an aggregate");
   if (below(8) == 0 && end_exchange(x, heard, CHARGE + 1 + below(3)) != WF_BAD_AIR) fail("too great an airtime is taken");
   if (end_exchange(x, heard, below(2) ? 1 + below(CHARGE) : 0)) fail("an exchange that does not end");
 }
@@ -474,6 +603,7 @@ static void call_done(void) {
   else if (below(4)) end_by_outcomes(&x);
   else cancel(&x);
   if (wf_path_done_lost(&path, x.number, CHARGE + 1, &reply) != WF_NO_EXCHANGE) fail("an exchange that ends twice");
+  if (wf_path_done_ack(&path, x.number, 1, CHARGE + 1, &reply) != WF_NO_EXCHANGE) fail("an exchange that an Ack ends twice");
 }
 
 /* Returns whether a reaped frame was sent as often as its fate says: never if a queue dropped it, and
@@ -573,12 +703,15 @@ static void call(void) {
   uint16_t s = (uint16_t)below(below(100) ? STATIONS : STATIONS + 1);
   uint32_t which = below(100);
   if (below(50) == 0) call_address();
+  if (below(50) == 0) call_bss(), call_aid(), look_at_tims();
   if (below(25) == 0) call_mark();
-  if (which < 40) call_enqueue(s);
-  else if (which < 58) call_pull();
-  else if (which < 76) call_done();
-  else if (which < 90) call_reap();
-  else if (which < 92) call_join(s);
+  if (which < 39) call_enqueue(s);
+  else if (which < 57) call_pull();
+  else if (which < 75) call_done();
+  else if (which < 88) call_reap();
+  else if (which < 90) call_mode(s);
+  else if (which < 91) call_join(s);
+  else if (which < 92) call_plain(s);
   else if (which < 93) call_join_offload(s);
   else if (which < 94) call_rate(s);
   else if (which < 95) call_rate_vht(s);
@@ -587,7 +720,12 @@ static void call(void) {
   else call_other(s);
 }
 
-/* Writes the summary of docs/TRACE.md. */
+/* Returns how many frames are inside. */
+static uint64_t held_of(const struct wf_tally *t) {
+  return t->accepted - t->acked - t->overlimit - t->codel - t->retries - t->left - t->flushed - t->ended;
+}
+
+/* Writes the summary of docs/TRACE.md. A trace has the placeholder association identifiers. */
 static void summary(void) {
   struct wf_tally t = {0};
   struct wf_share share = {0};
@@ -599,8 +737,9 @@ static void summary(void) {
   fprintf(answers, "calls %ld\nnow %llu\n", lines, (unsigned long long)wf_path_now(&path));
   fprintf(answers, "frames %llu acked %llu overlimit %llu codel %llu retries %llu left %llu held %llu", (unsigned long long)t.accepted,
           (unsigned long long)t.acked, (unsigned long long)t.overlimit, (unsigned long long)t.codel, (unsigned long long)t.retries,
-          (unsigned long long)t.left, (unsigned long long)(t.accepted - t.acked - t.overlimit - t.codel - t.retries - t.left - t.flushed));
+          (unsigned long long)t.left, (unsigned long long)held_of(&t));
   if (t.flushed) fprintf(answers, " flushed %llu", (unsigned long long)t.flushed);
+  if (t.ended) fprintf(answers, " ended %llu", (unsigned long long)t.ended);
   fprintf(answers, "\n");
   fprintf(answers, "exchanges %llu open %lu\n", (unsigned long long)wf_path_exchanges(&path), (unsigned long)wf_path_open_count(&path));
   for (s = 0; s < STATIONS; s++) {
@@ -610,6 +749,9 @@ static void summary(void) {
       fprintf(answers, "sta %u %s charged %llu rx %llu deficit %lld\n", (unsigned)s, CLASSES[c], (unsigned long long)share.charged,
               (unsigned long long)share.rx, (long long)share.deficit);
     }
+  }
+  for (s = 0; s < STATIONS; s++) {
+    if (wf_path_set_aid(&path, s, (uint16_t)(s + 1))) fail("no placeholder for an association identifier");
   }
   size = wf_path_tim(&path, tim);
   fprintf(answers, "tim ");
@@ -664,6 +806,7 @@ static void open_path(void) {
   write_settings(&settings);
   for (s = 0; s < STATIONS; s++) {
     if (wf_path_address(&path, s, addresses[s]) || addresses[s][3] != 1 || addresses[s][5] != s) fail("no made-up address");
+    aids[s] = (uint16_t)(s + 1);
   }
 }
 

@@ -18,7 +18,7 @@ static void write_send(FILE *out, const struct wf_reply *reply, const struct wf_
   if (reply->request) {
     fprintf(out, "bar %u", (unsigned)reply->start);
   } else {
-    fprintf(out, reply->batch ? "batch" : "data");
+    fprintf(out, reply->batch ? "batch" : reply->plain ? "plain" : "data");
     for (i = 0; i < frames->count; i++) {
       fprintf(out, " %llu", (unsigned long long)frames->ids[i]);
       if (!reply->batch) fprintf(out, ":%u", (unsigned)frames->numbers[i]);
@@ -38,25 +38,32 @@ static void write_reaped(FILE *out, const struct wf_reply *reply) {
   fprintf(out, " %llu %s", (unsigned long long)reply->id, fate);
 }
 
+/* Returns whether the word of a refusal has a number after it that is the `count` of the reply. */
+static int has_count(uint8_t refusal) {
+  return (refusal >= WF_OPEN && refusal <= WF_FULL) || refusal == WF_WAITS;
+}
+
 static void write_refusal(FILE *out, const struct wf_reply *reply) {
   char refusal[WF_NAME] = {0};
   wf_code_name(reply->refusal, refusal);
   fprintf(out, " %s", refusal);
   if (reply->refusal == WF_DEBT) fprintf(out, " %lld", (long long)reply->deficit);
   if (reply->refusal == WF_AHEAD) fprintf(out, " %lu", (unsigned long)reply->air);
-  if (reply->refusal >= WF_OPEN && reply->refusal <= WF_FULL) fprintf(out, " %lu", (unsigned long)reply->count);
+  if (has_count(reply->refusal)) fprintf(out, " %lu", (unsigned long)reply->count);
 }
 
-/* Writes the line of an answer of a path. Returns 0 if only a cell has this answer, and then writes nothing.
- * */
+/* Writes the line of an answer of a path. Returns 0 if only a cell has this answer, and then writes nothing. The
+ * line of WF_KIND_CEASED ends with the count: a path does not know the frames that the station passed up. */
 static int write_words(FILE *out, const struct wf_reply *reply, const struct wf_frames *frames) {
   char kind[WF_NAME] = {0};
-  if (reply->kind == WF_KIND_RELEASED || reply->kind == WF_KIND_BA) return 0;
+  if (reply->kind == WF_KIND_RELEASED || reply->kind == WF_KIND_BA || reply->kind == WF_KIND_ACK) return 0;
   wf_kind_name(reply->kind, kind);
   fprintf(out, "%s", kind);
   switch (reply->kind) {
     case WF_KIND_LEFT:
-    case WF_KIND_FLUSHED: fprintf(out, " %lu", (unsigned long)reply->count); break;
+    case WF_KIND_FLUSHED:
+    case WF_KIND_CEASED: fprintf(out, " %lu", (unsigned long)reply->count); break;
+    case WF_KIND_HELD: fprintf(out, " %u", (unsigned)reply->start); break;
     case WF_KIND_NOW: fprintf(out, " %llu", (unsigned long long)reply->now); break;
     case WF_KIND_ACCEPTED: write_accepted(out, reply); break;
     case WF_KIND_SEND: write_send(out, reply, frames); break;
