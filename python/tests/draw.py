@@ -20,7 +20,9 @@ RULES = {"aql_total": 1500, "debt": 20000, "keep_order": 1, "codel_reset": 1, "a
 OTHERS = {"overhead": 8, "cap_vi": 2000, "cap_vo": 1000, "answers": 1, "credits": 1}
 WORDS = {"join": "joined", "set_rate": "set", "sleep": "slept", "wake": "woken"}
 WORDS |= {"set_ampdu": "set", "stop": "stopped", "start": "started", "unsent": "marked", "give_up": "marked"}
-WORDS |= {"join_offload": "joined", "set_weight": "set"}
+WORDS |= {"join_offload": "joined", "set_weight": "set", "plain": "joined", "begin": "begun", "free": "freed"}
+# Numbers with the words before them, by method. A path does not know what a station passed up when its agreement ended.
+COUNTS = {"leave": "left", "flush": "flushed", "tick": "now", "rx": "charged", "hold": "held"}
 
 
 def settings_of(seed: int) -> dict[str, int]:
@@ -33,16 +35,12 @@ def answer_of(name: str, value: Any) -> str:
     """Returns the line of an answer, for a method and what it returned."""
     if name in WORDS:
         return WORDS[name]
-    if name == "leave":
-        return f"left {value}"
-    if name == "flush":
-        return f"flushed {value}"
-    if name == "tick":
-        return f"now {value}"
+    if name in COUNTS:
+        return f"{COUNTS[name]} {value}"
+    if name == "cease" and isinstance(value, int):
+        return f"ceased {value}"
     if name == "poll":
         return f"polled {AccessClass(value).word}"
-    if name == "rx":
-        return f"charged {value}"
     if name == "arrive":
         return " ".join(["released", *map(str, value)])
     return str(value)
@@ -58,6 +56,7 @@ def reply_line(reply: tables.ReplyStruct) -> str:
         Kind.POLLED: f"polled {AccessClass(reply.class_ % 4).word}",
         Kind.CHARGED: f"charged {reply.deficit}",
         Kind.REAPED: f"reaped {reply.id} {Fate(reply.fate).word}",
+        Kind.HELD: f"held {reply.start}",
     }
     kind = Kind(reply.kind)
     if kind == Kind.REFUSED:
@@ -66,11 +65,15 @@ def reply_line(reply: tables.ReplyStruct) -> str:
 
 
 class Draw:
-    """Random numbers, and the lines so far. The line of an answer is None if only receivers know it."""
+    """Random numbers, and the lines so far. The line of an answer is None if only receivers know it.
 
-    def __init__(self, seed: int, handle: Any) -> None:
+    With `agreements` some stations join without agreements, and some calls hold, begin, free or cease one.
+    """
+
+    def __init__(self, seed: int, handle: Any, agreements: bool) -> None:
         self.random = random.Random(seed)
         self.handle = handle
+        self.agreements = agreements
         self.lines: list[str] = [trace.head(handle.settings)]
         self.answers: list[str | None] = []
 
@@ -98,6 +101,9 @@ class Draw:
         """A join."""
         window = 1 + self.below(64 if self.below(4) else 257)
         start, exponent, weight = self.below(4100), self.below(5), self.below(18)
+        if self.agreements and self.below(2):
+            self.call(f"plain {station} {start} {exponent} {weight}", "plain", station, start, exponent, weight)
+            return
         if self.below(3) == 0:
             self.call(f"offload {station} {exponent} {weight}", "join_offload", station, exponent, weight)
             return
@@ -147,6 +153,8 @@ class Draw:
 
     def drawn(self, station: int) -> tuple[Call, str]:
         """A call of a burst, and its line."""
+        if self.agreements and self.below(3) == 0:
+            return self.drawn_agreement(station)
         kinds = (CallKind.ENQUEUE, CallKind.REAP, CallKind.TICK, CallKind.RX, CallKind.POLL, CallKind.FLUSH)
         kind = self.random.choice(kinds)
         call, class_ = Call(kind), AccessClass(self.below(4))
@@ -161,6 +169,33 @@ class Draw:
             CallKind.FLUSH: f"flush {station} {made.tid}",
         }
         return call, lines.get(kind, "reap")
+
+    def drawn_agreement(self, station: int) -> tuple[Call, str]:
+        """A call of a burst on an agreement, and its line."""
+        call = Call(self.random.choice((CallKind.PLAIN, CallKind.HOLD, CallKind.BEGIN, CallKind.FREE)))
+        made = call.struct
+        made.station, made.tid, made.window, made.start = station, self.tid(), self.below(258), self.below(4100)
+        made.exponent, made.weight = self.below(5), self.below(18)
+        lines = {
+            CallKind.PLAIN: f"plain {station} {made.start} {made.exponent} {made.weight}",
+            CallKind.HOLD: f"hold {station} {made.tid}",
+            CallKind.BEGIN: f"begin {station} {made.tid} {made.window}",
+        }
+        return call, lines.get(CallKind(made.kind), f"free {station} {made.tid}")
+
+    def tid(self) -> int:
+        """A TID for a call on an agreement: mostly one of a few, seldom one that does not exist."""
+        return self.random.choice((0, 4, 6)) if self.below(4) else self.below(9)
+
+    def agreement(self) -> None:
+        """A call on the agreement of a TID."""
+        station, tid = self.station(), self.tid()
+        name = self.random.choice(("hold", "begin", "begin", "free", "cease"))
+        if name == "begin":
+            window = 1 + self.below(64 if self.below(4) else 257)
+            self.call(f"begin {station} {tid} {window}", "begin", station, tid, window)
+        else:
+            self.call(f"{name} {station} {tid}", name, station, tid)
 
     def other(self, station: int) -> None:
         """One of the other calls."""
@@ -215,8 +250,8 @@ class Draw:
 class PathDraw(Draw):
     """Random calls of a path. It keeps what arrives at the stations, and passes it on in BlockAcks."""
 
-    def __init__(self, seed: int, calls: int) -> None:
-        super().__init__(seed, Path(calls=4 * calls + 1000, **settings_of(seed)))
+    def __init__(self, seed: int, calls: int, agreements: bool = False) -> None:
+        super().__init__(seed, Path(calls=4 * calls + 1000, **settings_of(seed)), agreements)
         self.open: list[Exchange] = []
         # The id that arrived last, by station, TID and sequence number.
         self.arrived: dict[tuple[int, int, int], int] = {}
@@ -230,7 +265,9 @@ class PathDraw(Draw):
     def step(self) -> None:
         """A call."""
         which = self.below(100)
-        if which < 66:
+        if self.agreements and self.below(6) == 0:
+            self.agreement()
+        elif which < 66:
             self.common(which)
         elif which < 70:
             self.burst(9)
@@ -243,7 +280,16 @@ class PathDraw(Draw):
             if word:
                 self.marks[exchange.number, index] = word
         elif self.open:
-            self.finish(self.open.pop(self.below(len(self.open))))
+            exchange = self.open.pop(self.below(len(self.open)))
+            self.finish(exchange)
+            self.look_at(exchange.station, exchange.tid)
+
+    def look_at(self, station: int, tid: int) -> None:
+        """A look at the numbers of a TID."""
+        flying = sum(len(one.ids) for one in self.open if (one.station, one.tid) == (station, tid))
+        waiting = self.handle.waiting(station, tid)
+        assert self.handle.flying(station, tid) == flying
+        assert self.handle.drained(station, tid) == (flying + waiting == 0)
 
     def pull(self) -> None:
         """A pull, and a look at what it opened."""
@@ -254,6 +300,7 @@ class PathDraw(Draw):
         if exchange is None:
             return
         self.open.append(exchange)
+        self.look_at(exchange.station, exchange.tid)
         sent = self.handle.sent(exchange.number)
         assert sent == (exchange.station, exchange.transmissions, exchange.tid, exchange.request)
         for index, number in enumerate(exchange.ids):
@@ -337,6 +384,9 @@ class PathDraw(Draw):
         """Ends an exchange; it stays open if the airtime is too great."""
         number = exchange.number
         line = f"done {number} {'heard' if heard else 'lost'}" + (f" air {air}" if air else "")
+        if exchange.plain and (number, 0) not in self.marks:
+            self.call(line, "done_ack", number, heard, air)
+            return
         if not heard:
             self.call(line, "done_lost", number, air)
             return
@@ -351,10 +401,12 @@ class PathDraw(Draw):
         """The lines of the summary."""
         path: Path = self.handle
         tally = path.tally()
-        words = " ".join(f"{name} {value}" for name, value in zip(tally._fields[1:-1], tally[1:-1]))
-        flushed = f" flushed {tally.flushed}" if tally.flushed else ""
+        counts = {**tally._asdict(), "held": tally.held}
+        always = ("acked", "overlimit", "codel", "retries", "left", "held")
+        words = [f"{name} {counts[name]}" for name in always]
+        words += [f"{name} {counts[name]}" for name in ("flushed", "ended") if counts[name]]
         self.answers += [f"calls {len(self.lines) - 2}", f"now {path.now}"]
-        self.answers.append(f"frames {tally.accepted} {words} held {tally.held}{flushed}")
+        self.answers.append(" ".join([f"frames {tally.accepted}", *words]))
         self.answers.append(f"exchanges {path.exchanges} open {path.open_count}")
         for station in filter(path.live, range(STATIONS)):
             for class_ in AccessClass:
@@ -368,8 +420,8 @@ class PathDraw(Draw):
 class CellDraw(Draw):
     """Random calls of a cell."""
 
-    def __init__(self, seed: int, calls: int) -> None:
-        super().__init__(seed, Cell(calls=calls, **settings_of(seed)))
+    def __init__(self, seed: int, calls: int, agreements: bool = False) -> None:
+        super().__init__(seed, Cell(calls=calls, **settings_of(seed)), agreements)
         self.open: list[int] = []
         self.opened = 0
         while len(self.answers) < calls:
@@ -379,7 +431,9 @@ class CellDraw(Draw):
     def step(self, most: int) -> None:
         """A call, or a burst of at most so many."""
         which = self.below(200)
-        if which < 66:
+        if self.agreements and self.below(8) == 0:
+            self.agreement()
+        elif which < 66:
             self.common(which)
         elif which < 70:
             self.burst(min(most, 9))

@@ -88,9 +88,37 @@ class Calls(unittest.TestCase):
         self.assertEqual([frame.fate.word for frame in (cell.reap(), cell.reap())], ["retries", "acked"])
         self.assertEqual([str(cell.entry(place)) for place in (0, 7)], ["offload 0 3 1", "weight 0 2"])
 
+    def test_an_agreement_that_begins_and_ends(self) -> None:
+        with Cell(stations=1, calls=40) as cell:
+            cell.plain(0, start=5)
+            for _ in range(4):
+                cell.enqueue(0, 100)
+            self.assertEqual(str(cell.pull(AccessClass.BE))[-10:], " plain 0:5")
+            self.assertEqual(cell.hold(0, 0), 6)
+            self.assertEqual(cell.arrive(0, 0), [0])
+            answer = cell.answer(0)
+            self.assertEqual((answer.ack, str(answer)), (True, "ack"))
+            with self.assertRaises(errors.Open):
+                cell.begin(0, 0, 8)
+            cell.done(0, True)
+            cell.begin(0, 0, 8)
+            self.assertEqual(cell.pull(AccessClass.BE).ids, [1, 2, 3])
+            self.assertEqual(cell.arrive(1, 1), [])
+            self.assertEqual(str(cell.answer(1)), "ba 6 0000000000000002")
+            cell.done(1, True)
+            ceased = cell.cease(0, 0)
+            self.assertEqual((ceased, str(ceased)), ((2, [2]), "ceased 2 2"))
+            cell.free(0, 0)
+            self.assertEqual([frame.fate.word for frame in cell.reap_all()], ["acked", "acked", "ended", "ended"])
+            lines = [line for line in cell.trace() if line.split()[0] in ("plain", "hold", "begin", "cease", "free")]
+            self.assertEqual(lines, ["plain 0 5 3 1", "hold 0 0", "begin 0 0 8", "begin 0 0 8", "cease 0 0", "free 0 0"])
+
     def test_numbers_that_do_not_fit_are_errors(self) -> None:
         cell = self.cell
         for call in (lambda: cell.arrive(0, 65536), lambda: cell.done(-1, True), lambda: cell.rx(0, 4, 1)):
+            with self.assertRaises(ValueError):
+                call()
+        for call in (lambda: cell.plain(0, 65536), lambda: cell.hold(0, 256), lambda: cell.begin(0, 0, 65536)):
             with self.assertRaises(ValueError):
                 call()
         with self.assertRaises(ValueError):

@@ -168,6 +168,85 @@ class Calls(unittest.TestCase):
         with self.assertRaises(errors.Live):
             path.join_offload(0)
 
+    def test_frames_without_an_agreement_go_one_at_a_time(self) -> None:
+        path = self.path
+        path.plain(0, start=4095, exponent=2, weight=4)
+        for tag in range(3):
+            path.enqueue(0, 100, tag=tag)
+        first = path.pull(BE)
+        self.assertEqual((first.plain, first.ids, first.numbers), (True, [0], [4095]))
+        self.assertEqual(str(first), f"send 0 sta 0 tid 0 air {first.air} plain 0:4095")
+        self.assertEqual((path.flying(0, 0), path.waiting(0, 0), path.drained(0, 0)), (1, 0, False))
+        self.assertFalse(path.can_pull(BE))
+        self.assertEqual(path.done_ack(0, False), (0, 1, 0))
+        self.assertEqual((path.flying(0, 0), path.waiting(0, 0), path.drained(0, 0)), (0, 1, False))
+        self.assertEqual(path.pull(BE).numbers, [4095])
+        self.assertEqual(path.done_ack(1, True, 300), (1, 0, 0))
+        self.assertTrue(path.drained(0, 0))
+        self.assertEqual(path.pull(BE).numbers, [0])
+        path.give_up(2, 0)
+        with self.assertRaises(errors.Marked):
+            path.done_ack(2, True)
+        self.assertEqual(path.done_lost(2), (0, 0, 1))
+        fates = {frame.tag: (frame.fate, frame.attempts) for frame in path.reap_all()}
+        self.assertEqual(fates, {0: (Fate.ACKED, 2), 1: (Fate.RETRIES, 1)})
+        for call in (lambda: path.plain(1, 4096), lambda: path.plain(1, 0, 4), lambda: path.plain(1, weight=0)):
+            with self.assertRaises((errors.BadStart, errors.BadExponent, errors.BadWeight)):
+                call()
+        with self.assertRaises(errors.Live):
+            path.plain(0)
+
+    def test_an_agreement_begins_when_its_tid_is_drained(self) -> None:
+        path = self.path
+        path.plain(0)
+        for tag in range(4):
+            path.enqueue(0, 100, tag=tag)
+        path.pull(BE)
+        self.assertEqual(path.hold(0, 0), 1)
+        with self.assertRaises(errors.Held):
+            path.hold(0, 0)
+        with self.assertRaises(errors.Open) as opened:
+            path.begin(0, 0, 64)
+        path.done_ack(0, False)
+        with self.assertRaises(errors.Waits) as waits:
+            path.begin(0, 0, 64)
+        self.assertEqual((opened.exception.number, waits.exception.number), (1, 1))
+        path.done_ack(path.pull(BE).number, True)
+        self.assertTrue(path.drained(0, 0) and not path.can_pull(BE))
+        path.begin(0, 0, 64)
+        with self.assertRaises(errors.Agreed):
+            path.hold(0, 0)
+        aggregate = path.pull(BE)
+        self.assertEqual((aggregate.plain, aggregate.ids, aggregate.numbers), (False, [1, 2, 3], [1, 2, 3]))
+        with self.assertRaises(errors.BadIndex):
+            path.done_ack(aggregate.number, True)
+
+    def test_an_agreement_ends_and_its_waiting_frames_are_dropped(self) -> None:
+        path = self.path
+        path.join(0, start=7)
+        for tag in range(4):
+            path.enqueue(0, 100, tag=tag)
+        path.pull(BE, frames=3)
+        with self.assertRaises(errors.Open):
+            path.cease(0, 0)
+        self.assertEqual(path.done_bits(0, 7, 0b010), (1, 2, 0))
+        self.assertEqual(path.cease(0, 0), 2)
+        with self.assertRaises(errors.NotAgreed):
+            path.cease(0, 0)
+        self.assertFalse(path.can_pull(BE))
+        path.free(0, 0)
+        for call in (lambda: path.free(0, 0), lambda: path.begin(0, 0, 64)):
+            with self.assertRaises(errors.NotHeld):
+                call()
+        last = path.pull(BE)
+        self.assertEqual((last.plain, last.ids, last.numbers), (True, [3], [10]))
+        fates = {frame.tag: frame.fate for frame in path.reap_all()}
+        self.assertEqual(fates, {0: Fate.ENDED, 1: Fate.ACKED, 2: Fate.ENDED})
+        self.assertEqual((path.tally().ended, path.tally().held), (2, 1))
+        path.join_offload(1)
+        with self.assertRaises(errors.Offloaded):
+            path.hold(1, 0)
+
     def test_a_weight_is_set(self) -> None:
         path = self.path
         path.join(0, weight=4)
@@ -233,6 +312,15 @@ class Calls(unittest.TestCase):
             lambda: self.path.flush(0, 256),
             lambda: self.path.join_offload(0, 256),
             lambda: self.path.set_weight(0, 256),
+            lambda: self.path.plain(0, 65536),
+            lambda: self.path.hold(0, 256),
+            lambda: self.path.begin(0, 0, 65536),
+            lambda: self.path.free(65536, 0),
+            lambda: self.path.cease(0, -1),
+            lambda: self.path.done_ack(-1, True),
+            lambda: self.path.set_aid(0, 65536),
+            lambda: self.path.set_bss(65536, bytes(6)),
+            lambda: self.path.tim(b"12345"),
         ):
             with self.assertRaises(ValueError):
                 call()
@@ -246,6 +334,28 @@ class Calls(unittest.TestCase):
         self.assertEqual(self.path.address(0), b"\2\0\0\1\0\0")
         with self.assertRaises(errors.BadAddress):
             self.path.set_base(b"\1\0\0\0\0\0")
+
+    def test_a_station_of_another_bss(self) -> None:
+        path, bss = self.path, b"\0\0\x5e\0\x53\3"
+        path.set_bss(1, bss)
+        path.set_aid(1, 9)
+        for station in range(2):
+            path.join(station)
+            path.enqueue(station, 100)
+        heads = [path.header(path.pull(BE).number, 0) for _ in range(2)]
+        self.assertEqual([head[10:16] for head in heads], [path.base, bss])
+        for station in range(2):
+            path.sleep(station)
+            path.enqueue(station, 100)
+        # The bits of the AIDs 1 and 9, from the first octet that is not 0 on.
+        self.assertEqual(path.tim()[5:], b"\2\2")
+        self.assertEqual((path.tim(path.base)[5:], path.tim(bss)[4:]), (b"\2", b"\0\0\2"))
+        self.assertEqual(path.tim(b"\0\0\x5e\0\x53\4"), b"\5\4\0\1\0\0")
+        for aid in (0, 2008):
+            with self.assertRaises(errors.BadAid):
+                path.set_aid(1, aid)
+        with self.assertRaises(errors.BadAddress):
+            path.set_bss(1, b"\1\0\0\0\0\0")
 
     def test_the_readers(self) -> None:
         path = self.path
@@ -261,7 +371,7 @@ class Calls(unittest.TestCase):
         self.assertIn(path.listed(0, AccessClass.VO), (1, 2))
         path.advance(5_000_000_000)
         self.assertEqual((path.now, path.exchanges, path.has_small_counts), (5_000_000_000, 0, True))
-        self.assertEqual(path.tally(), (1, 0, 0, 0, 0, 0, 0))
+        self.assertEqual(path.tally(), (1, 0, 0, 0, 0, 0, 0, 0))
         self.assertEqual(path.leave(0), 1)
         self.assertEqual([frame.fate.word for frame in path.reap_all()], ["left"])
 

@@ -22,13 +22,17 @@ def replayed(lines: list[str]) -> list[str]:
     return done.stdout.decode().splitlines()
 
 
+def as_path(answers: list[str]) -> list[str]:
+    """Returns the answers of a replay as a path gives them: it does not know what a station passed up at a cease."""
+    return [" ".join(answer.split()[:2]) if answer.startswith("ceased ") else answer for answer in answers]
+
+
 @unittest.skipUnless(PROGRAM, "WF_PROGRAM names no program")
 class Replay(unittest.TestCase):
     """Calls of a path and of a cell."""
 
-    def compare(self, draw: Draw, count: int) -> None:
+    def compare(self, draw: Draw, wanted: list[str], count: int) -> None:
         """Compares the answers with those of the replay: the first ones, which are so many."""
-        wanted = replayed(draw.lines)
         self.assertEqual(len(draw.answers), count)
         self.assertGreaterEqual(len(wanted), count)
         for place, (found, other) in enumerate(zip(draw.answers, wanted)):
@@ -36,19 +40,34 @@ class Replay(unittest.TestCase):
                 line = draw.lines[place + 1] if place + 1 < len(draw.lines) else "the summary"
                 self.fail(f"answer {place} to '{line}': '{found}'; the replay says '{other}'")
 
+    def compare_path(self, draw: PathDraw) -> None:
+        """Compares all answers of a path, and its summary."""
+        wanted = as_path(replayed(draw.lines))
+        self.compare(draw, wanted, len(wanted))
+        draw.handle.close()
+
+    def compare_cell(self, draw: CellDraw) -> None:
+        """Compares all answers of a cell, and its history."""
+        self.compare(draw, replayed(draw.lines), CALLS)
+        self.assertEqual(list(draw.handle.trace()), draw.lines)
+        self.assertEqual(len(draw.handle), CALLS)
+        draw.handle.close()
+
     def test_path(self) -> None:
         for seed in (1, 2):
-            draw = PathDraw(seed, CALLS)
-            self.compare(draw, len(replayed(draw.lines)))
-            draw.handle.close()
+            self.compare_path(PathDraw(seed, CALLS))
 
     def test_cell(self) -> None:
         for seed in (3, 4):
-            draw = CellDraw(seed, CALLS)
-            self.compare(draw, CALLS)
-            self.assertEqual(list(draw.handle.trace()), draw.lines)
-            self.assertEqual(len(draw.handle), CALLS)
-            draw.handle.close()
+            self.compare_cell(CellDraw(seed, CALLS))
+
+    def test_agreements_of_a_path(self) -> None:
+        for seed in (5, 6):
+            self.compare_path(PathDraw(seed, CALLS, agreements=True))
+
+    def test_agreements_of_a_cell(self) -> None:
+        for seed in (7, 8):
+            self.compare_cell(CellDraw(seed, CALLS, agreements=True))
 
 
 if __name__ == "__main__":

@@ -28,7 +28,7 @@ from ._tables import (
     Outcome,
     Settings,
 )
-from .answers import Accepted, Block, Burst, Done, Exchange, Reaped, Sent, Share, Tally
+from .answers import Accepted, Block, Burst, Ceased, Done, Exchange, Reaped, Sent, Share, Tally
 from .cell import Cell
 from .errors import BlockError, Refused, WfError
 from .path import Path
@@ -45,6 +45,7 @@ __all__ = [
     "BlockError",
     "Burst",
     "CallKind",
+    "Ceased",
     "Cell",
     "Done",
     "Exchange",

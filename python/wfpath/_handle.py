@@ -145,8 +145,9 @@ class Handle:
         reply, count = self._reply, self._frames.count
         ids, numbers = self._ids[:count].tolist(), self._numbers[:count].tolist()
         number, station, tid, air = reply.exchange, reply.station, reply.tid, reply.air
-        request, more, batch = reply.request != 0, reply.more != 0, reply.batch != 0
-        return Exchange(number, station, tid, air, request, reply.start, more, ids, numbers, batch)
+        request, more = reply.request != 0, reply.more != 0
+        batch, plain = reply.batch != 0, reply.plain != 0
+        return Exchange(number, station, tid, air, request, reply.start, more, ids, numbers, batch, plain)
 
     def _reaped(self, has_body: bool) -> Reaped:
         """Returns the answer to a reap."""

@@ -37,6 +37,7 @@ class Fate(enum.IntEnum):
     RETRIES = 4
     LEFT = 5
     FLUSHED = 6
+    ENDED = 7
 
     @property
     def word(self) -> str:
@@ -75,6 +76,11 @@ class Kind(enum.IntEnum):
     STARTED = 16
     MARKED = 17
     FLUSHED = 18
+    ACK = 19
+    HELD = 20
+    BEGUN = 21
+    FREED = 22
+    CEASED = 23
 
     @property
     def word(self) -> str:
@@ -107,6 +113,11 @@ class CallKind(enum.IntEnum):
     FLUSH = 19
     OFFLOAD = 20
     WEIGHT = 21
+    PLAIN = 22
+    HOLD = 23
+    BEGIN = 24
+    FREE = 25
+    CEASE = 26
 
     @property
     def word(self) -> str:
@@ -350,8 +361,9 @@ class ReplyStruct(ctypes.Structure):
     request: int
     more: int
     batch: int
+    plain: int
 
-    LAYOUT = "@QQQQqIIHHHHHBBBBBBBBB"
+    LAYOUT = "@QQQQqIIHHHHHBBBBBBBBBB"
     _fields_ = [
         ("exchange", ctypes.c_uint64),
         ("id", ctypes.c_uint64),
@@ -374,6 +386,7 @@ class ReplyStruct(ctypes.Structure):
         ("request", ctypes.c_uint8),
         ("more", ctypes.c_uint8),
         ("batch", ctypes.c_uint8),
+        ("plain", ctypes.c_uint8),
     ]
 
 
@@ -490,8 +503,9 @@ class TallyStruct(ctypes.Structure):
     retries: int
     left: int
     flushed: int
+    ended: int
 
-    LAYOUT = "@QQQQQQQ"
+    LAYOUT = "@QQQQQQQQ"
     _fields_ = [
         ("accepted", ctypes.c_uint64),
         ("acked", ctypes.c_uint64),
@@ -500,6 +514,7 @@ class TallyStruct(ctypes.Structure):
         ("retries", ctypes.c_uint64),
         ("left", ctypes.c_uint64),
         ("flushed", ctypes.c_uint64),
+        ("ended", ctypes.c_uint64),
     ]
 
 
@@ -640,6 +655,8 @@ FUNCTIONS: dict[str, tuple[Any, tuple[Any, ...]]] = {
     "wf_path_free": (None, (ctypes.POINTER(PathStruct),)),
     "wf_path_set_base": (ctypes.c_int32, (ctypes.POINTER(PathStruct), ctypes.c_char_p,)),
     "wf_path_set_address": (ctypes.c_int32, (ctypes.POINTER(PathStruct), ctypes.c_uint16, ctypes.c_char_p,)),
+    "wf_path_set_bss": (ctypes.c_int32, (ctypes.POINTER(PathStruct), ctypes.c_uint16, ctypes.c_char_p,)),
+    "wf_path_set_aid": (ctypes.c_int32, (ctypes.POINTER(PathStruct), ctypes.c_uint16, ctypes.c_uint16,)),
     "wf_path_base": (None, (ctypes.POINTER(PathStruct), ctypes.c_void_p,)),
     "wf_path_address": (ctypes.c_int32, (ctypes.POINTER(PathStruct), ctypes.c_uint16, ctypes.c_void_p,)),
     "wf_path_join": (
@@ -660,6 +677,54 @@ FUNCTIONS: dict[str, tuple[Any, tuple[Any, ...]]] = {
             ctypes.POINTER(PathStruct),
             ctypes.c_uint16,
             ctypes.c_uint8,
+            ctypes.c_uint8,
+            ctypes.POINTER(ReplyStruct),
+        ),
+    ),
+    "wf_path_plain": (
+        ctypes.c_int32,
+        (
+            ctypes.POINTER(PathStruct),
+            ctypes.c_uint16,
+            ctypes.c_uint16,
+            ctypes.c_uint8,
+            ctypes.c_uint8,
+            ctypes.POINTER(ReplyStruct),
+        ),
+    ),
+    "wf_path_hold": (
+        ctypes.c_int32,
+        (
+            ctypes.POINTER(PathStruct),
+            ctypes.c_uint16,
+            ctypes.c_uint8,
+            ctypes.POINTER(ReplyStruct),
+        ),
+    ),
+    "wf_path_begin": (
+        ctypes.c_int32,
+        (
+            ctypes.POINTER(PathStruct),
+            ctypes.c_uint16,
+            ctypes.c_uint8,
+            ctypes.c_uint16,
+            ctypes.POINTER(ReplyStruct),
+        ),
+    ),
+    "wf_path_free_tid": (
+        ctypes.c_int32,
+        (
+            ctypes.POINTER(PathStruct),
+            ctypes.c_uint16,
+            ctypes.c_uint8,
+            ctypes.POINTER(ReplyStruct),
+        ),
+    ),
+    "wf_path_cease": (
+        ctypes.c_int32,
+        (
+            ctypes.POINTER(PathStruct),
+            ctypes.c_uint16,
             ctypes.c_uint8,
             ctypes.POINTER(ReplyStruct),
         ),
@@ -933,6 +998,16 @@ FUNCTIONS: dict[str, tuple[Any, tuple[Any, ...]]] = {
             ctypes.POINTER(ReplyStruct),
         ),
     ),
+    "wf_path_done_ack": (
+        ctypes.c_int32,
+        (
+            ctypes.POINTER(PathStruct),
+            ctypes.c_uint64,
+            ctypes.c_uint8,
+            ctypes.c_uint32,
+            ctypes.POINTER(ReplyStruct),
+        ),
+    ),
     "wf_path_done_bits": (
         ctypes.c_int32,
         (
@@ -1009,7 +1084,26 @@ FUNCTIONS: dict[str, tuple[Any, tuple[Any, ...]]] = {
             ctypes.POINTER(ctypes.c_uint32),
         ),
     ),
+    "wf_path_flying": (
+        ctypes.c_int32,
+        (
+            ctypes.POINTER(PathStruct),
+            ctypes.c_uint16,
+            ctypes.c_uint8,
+            ctypes.POINTER(ctypes.c_uint32),
+        ),
+    ),
+    "wf_path_drained": (
+        ctypes.c_int32,
+        (
+            ctypes.POINTER(PathStruct),
+            ctypes.c_uint16,
+            ctypes.c_uint8,
+            ctypes.POINTER(ctypes.c_uint32),
+        ),
+    ),
     "wf_path_tim": (ctypes.c_size_t, (ctypes.POINTER(PathStruct), ctypes.c_void_p,)),
+    "wf_path_tim_of": (ctypes.c_size_t, (ctypes.POINTER(PathStruct), ctypes.c_char_p, ctypes.c_void_p,)),
     "wf_cell_make": (ctypes.c_int32, (ctypes.POINTER(CellStruct), ctypes.POINTER(SettingsStruct),)),
     "wf_cell_free": (None, (ctypes.POINTER(CellStruct),)),
     "wf_cell_ask": (

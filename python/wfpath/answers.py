@@ -30,7 +30,8 @@ class Burst(NamedTuple):
 
 
 class Exchange(NamedTuple):
-    """An exchange to send: an aggregate, a batch if `batch` is true, or a BlockAckReq if `request` is true.
+    """An exchange to send: an aggregate, a batch if `batch` is true, one frame without an agreement if `plain` is
+    true, or a BlockAckReq if `request` is true.
 
     `air` is in microseconds. `ids` and `numbers` are the frames and their sequence numbers; in a batch, whose
     frames the device numbers, the numbers are 0. `start` is that of the BlockAckReq. `more` says whether the
@@ -47,6 +48,7 @@ class Exchange(NamedTuple):
     ids: list[int]
     numbers: list[int]
     batch: bool = False
+    plain: bool = False
 
     @property
     def transmissions(self) -> int:
@@ -54,7 +56,8 @@ class Exchange(NamedTuple):
         return 1 if self.request else len(self.ids)
 
     def __str__(self) -> str:
-        sent = f"bar {self.start}" if self.request else "batch" if self.batch else "data"
+        data = "batch" if self.batch else "plain" if self.plain else "data"
+        sent = f"bar {self.start}" if self.request else data
         frames = "".join(f" {one}" if self.batch else f" {one}:{at}" for one, at in zip(self.ids, self.numbers))
         more = " more" if self.more else ""
         return f"send {self.number} sta {self.station} tid {self.tid} air {self.air} {sent}{frames}{more}"
@@ -96,14 +99,28 @@ class Reaped(NamedTuple):
 
 class Block(NamedTuple):
     """A station's BlockAck: bit n of `bits` is for the sequence number start + n, modulo 4096. `wide` says
-    256 bits, not 64."""
+    256 bits, not 64. If `ack` is true, it is an Ack, the answer to a plain exchange, and has no start and no
+    bits."""
 
     start: int
     bits: int
     wide: bool
+    ack: bool = False
 
     def __str__(self) -> str:
+        if self.ack:
+            return "ack"
         return f"ba {self.start} {self.bits:0{64 if self.wide else 16}x}"
+
+
+class Ceased(NamedTuple):
+    """The end of an agreement: how many frames were dropped, and the ids of those that the station passed up."""
+
+    dropped: int
+    ids: list[int]
+
+    def __str__(self) -> str:
+        return " ".join(["ceased", str(self.dropped), *map(str, self.ids)])
 
 
 class Sent(NamedTuple):
@@ -125,6 +142,7 @@ class Tally(NamedTuple):
     retries: int
     left: int
     flushed: int
+    ended: int
 
     @property
     def held(self) -> int:

@@ -8,8 +8,8 @@ from . import _tables as tables
 from . import trace
 from ._handle import BODY_ROOM, NO_ROOM, NO_SOURCE, QUICK, WAITS, Body, C, Handle, view
 from ._library import out_of_range
-from ._tables import AccessClass, CallKind, CallStruct, Form, Settings
-from .answers import CLASSES, Accepted, Block, Burst, Done, Exchange, Reaped
+from ._tables import AccessClass, CallKind, CallStruct, Form, Kind, Settings
+from .answers import CLASSES, Accepted, Block, Burst, Ceased, Done, Exchange, Reaped
 from .errors import Nothing
 from .rates import Rate
 from .raw import Call
@@ -78,6 +78,41 @@ class Cell(Handle):
         made.station, made.exponent, made.weight = station, exponent, weight
         self._must(self._code(call))
 
+    def plain(self, station: int, start: int = 0, exponent: int = 3, weight: int = 1) -> None:
+        """Makes a station live without agreements: its first sequence number, A-MPDU length exponent, and weight
+        in airtime. Its TIDs are plain: each exchange is one frame, which the station answers with an Ack."""
+        if station >> 16 or start >> 16 or exponent >> 8 or weight >> 8:
+            other = {"exponent": (exponent, 8), "weight": (weight, 8)}
+            raise out_of_range(station=(station, 16), start=(start, 16), **other)
+        call = self._calls[CallKind.PLAIN]
+        made = call.struct
+        made.station, made.start, made.exponent, made.weight = station, start, exponent, weight
+        self._must(self._code(call))
+
+    def hold(self, station: int, tid: int) -> int:
+        """Holds a plain TID: no frame of it gets a sequence number until `begin` or `free`. Returns the number
+        that an ADDBA request has to give."""
+        self._of_tid(CallKind.HOLD, station, tid)
+        return self._reply.start
+
+    def begin(self, station: int, tid: int, window: int) -> None:
+        """Begins the agreement of a held TID, with a window in frames. Raises Open or Waits while numbers of the
+        TID are on the air or wait."""
+        if window >> 16:
+            raise out_of_range(window=(window, 16))
+        self._calls[CallKind.BEGIN].struct.window = window
+        self._of_tid(CallKind.BEGIN, station, tid)
+
+    def free(self, station: int, tid: int) -> None:
+        """Makes a held TID plain again. To free the cell, call `close`."""
+        self._of_tid(CallKind.FREE, station, tid)
+
+    def cease(self, station: int, tid: int) -> Ceased:
+        """Ends the agreement of a TID, which is then held. Returns how many frames were dropped, and the ids of
+        those that the station passed up."""
+        self._of_tid(CallKind.CEASE, station, tid)
+        return Ceased(self._reply.count, self._passed_up())
+
     def set_weight(self, station: int, weight: int) -> None:
         """Sets the weight of a live station in airtime, 1 to 16."""
         if station >> 16 or weight >> 8:
@@ -134,11 +169,7 @@ class Cell(Handle):
 
     def flush(self, station: int, tid: int) -> int:
         """Drops the frames of a station's TID that are not on the air, and returns how many they are."""
-        if station >> 16 or tid >> 8:
-            raise out_of_range(station=(station, 16), tid=(tid, 8))
-        call = self._calls[CallKind.FLUSH]
-        call.struct.station, call.struct.tid = station, tid
-        self._must(self._code(call))
+        self._of_tid(CallKind.FLUSH, station, tid)
         return self._reply.count
 
     def rx(self, station: int, class_: int, air: int) -> int:
@@ -222,9 +253,7 @@ class Cell(Handle):
         code = _ask(self._at, self._caller, self._arrive.at, self._reply_at)
         if code:
             raise self._error(code)
-        _released(self._at, self._up_at)
-        found: list[int] = self._up_ids[: self._up.count].tolist()
-        return found
+        return self._passed_up()
 
     def unsent(self, exchange: int, index: int) -> None:
         """Marks a transmission that never went on the air: its frame waits to be sent again when the exchange
@@ -237,12 +266,14 @@ class Cell(Handle):
         self._mark(CallKind.GIVEUP, exchange, index)
 
     def answer(self, exchange: int) -> Block:
-        """Lets the station answer an exchange, and returns its BlockAck."""
+        """Lets the station answer an exchange, and returns its BlockAck, or its Ack if the exchange is plain."""
         if exchange >> 64:
             raise out_of_range(exchange=(exchange, 64))
         call = self._calls[CallKind.ANSWER]
         call.struct.exchange = exchange
         self._must(self._code(call))
+        if self._reply.kind == Kind.ACK:
+            return Block(0, 0, False, ack=True)
         block = tables.BlockStruct()
         C.wf_cell_block(self._at, ctypes.byref(block))
         return Block(block.start, int.from_bytes(block.bits, "little"), block.wide != 0)
@@ -334,6 +365,20 @@ class Cell(Handle):
         call = self._calls[kind]
         call.struct.station = station
         self._must(self._code(call))
+
+    def _of_tid(self, kind: CallKind, station: int, tid: int) -> None:
+        """Makes a call that has a station and a TID."""
+        if station >> 16 or tid >> 8:
+            raise out_of_range(station=(station, 16), tid=(tid, 8))
+        call = self._calls[kind]
+        call.struct.station, call.struct.tid = station, tid
+        self._must(self._code(call))
+
+    def _passed_up(self) -> list[int]:
+        """Returns the ids of the frames that a station passed up by the last call."""
+        _released(self._at, self._up_at)
+        found: list[int] = self._up_ids[: self._up.count].tolist()
+        return found
 
     def _mark(self, kind: CallKind, exchange: int, index: int) -> None:
         """Marks a transmission."""

@@ -287,6 +287,55 @@ class Marked(Refused):
     about = "that transmission has a mark: it never went on the air, or the device will not try it again"
 
 
+class Offloaded(Refused):
+    """The device of the station makes its agreements."""
+
+    code = 33
+    word = "offloaded"
+    about = "the device of the station makes its agreements"
+
+
+class Agreed(Refused):
+    """The TID has an agreement."""
+
+    code = 34
+    word = "agreed"
+    about = "the TID has an agreement"
+
+
+class Held(Refused):
+    """The TID is held already."""
+
+    code = 35
+    word = "held"
+    about = "the TID is held already"
+
+
+class NotHeld(Refused):
+    """The TID is not held."""
+
+    code = 36
+    word = "not-held"
+    about = "the TID is not held"
+
+
+class NotAgreed(Refused):
+    """The TID has no agreement."""
+
+    code = 37
+    word = "not-agreed"
+    about = "the TID has no agreement"
+
+
+class Waits(Refused):
+    """`count` sequence numbers of the TID wait to be sent."""
+
+    code = 38
+    word = "waits"
+    about = "`count` sequence numbers of the TID wait to be sent"
+    field = "count"
+
+
 class NoMemory(WfError):
     """Out of memory."""
 
@@ -337,6 +386,14 @@ class NoBody(WfError):
         "the frame has no octets: write its header (wf_path_header), and send the body from its owner's "
         "buffer"
     )
+
+
+class BadAid(WfError):
+    """The association identifier is 0 or above 2007."""
+
+    code = 46
+    word = "bad-aid"
+    about = "the association identifier is 0 or above 2007"
 
 
 class BadClass(WfError):
@@ -461,12 +518,19 @@ ERRORS: dict[int, type[WfError]] = {
     30: Stopped,
     31: Started,
     32: Marked,
+    33: Offloaded,
+    34: Agreed,
+    35: Held,
+    36: NotHeld,
+    37: NotAgreed,
+    38: Waits,
     40: NoMemory,
     41: BadLength,
     42: SmallBuffer,
     43: BadCall,
     44: BadAddress,
     45: NoBody,
+    46: BadAid,
     47: BadClass,
     48: BadOutcome,
     49: InUse,

@@ -23,6 +23,7 @@ _tick = QUICK.wf_path_tick
 _now = QUICK.wf_path_now
 _done_lost = QUICK.wf_path_done_lost
 _done_bits = QUICK.wf_path_done_bits
+_done_ack = QUICK.wf_path_done_ack
 _number = ctypes.c_uint64
 _NOTHING = Nothing.code
 _TALLY = struct.Struct(tables.TallyStruct.LAYOUT)
@@ -58,6 +59,37 @@ class Path(Handle):
         if station >> 16 or exponent >> 8 or weight >> 8:
             raise out_of_range(station=(station, 16), exponent=(exponent, 8), weight=(weight, 8))
         self._must(C.wf_path_join_offload(self._at, station, exponent, weight, self._reply_at))
+
+    def plain(self, station: int, start: int = 0, exponent: int = 3, weight: int = 1) -> None:
+        """Makes a station live without agreements: its first sequence number, A-MPDU length exponent, and weight
+        in airtime. Its TIDs are plain: each exchange is one frame, which ends by `done_ack`."""
+        if station >> 16 or start >> 16 or exponent >> 8 or weight >> 8:
+            other = {"exponent": (exponent, 8), "weight": (weight, 8)}
+            raise out_of_range(station=(station, 16), start=(start, 16), **other)
+        self._must(C.wf_path_plain(self._at, station, start, exponent, weight, self._reply_at))
+
+    def hold(self, station: int, tid: int) -> int:
+        """Holds a plain TID: no frame of it gets a sequence number until `begin` or `free`. Returns the number
+        that an ADDBA request has to give."""
+        self._ask_tid(C.wf_path_hold, station, tid)
+        return self._reply.start
+
+    def begin(self, station: int, tid: int, window: int) -> None:
+        """Begins the agreement of a held TID, with a window in frames. Raises Open or Waits until the TID is
+        drained."""
+        if station >> 16 or tid >> 8 or window >> 16:
+            raise out_of_range(station=(station, 16), tid=(tid, 8), window=(window, 16))
+        self._must(C.wf_path_begin(self._at, station, tid, window, self._reply_at))
+
+    def free(self, station: int, tid: int) -> None:
+        """Makes a held TID plain again. To free the path, call `close`."""
+        self._ask_tid(C.wf_path_free_tid, station, tid)
+
+    def cease(self, station: int, tid: int) -> int:
+        """Ends the agreement of a TID, which is then held. Returns how many frames were dropped: those that had
+        sequence numbers and waited to be sent again."""
+        self._ask_tid(C.wf_path_cease, station, tid)
+        return self._reply.count
 
     def set_weight(self, station: int, weight: int) -> None:
         """Sets the weight of a live station in airtime, 1 to 16."""
@@ -113,9 +145,7 @@ class Path(Handle):
 
     def flush(self, station: int, tid: int) -> int:
         """Drops the frames of a station's TID that are not on the air, and returns how many they are."""
-        if station >> 16 or tid >> 8:
-            raise out_of_range(station=(station, 16), tid=(tid, 8))
-        self._must(C.wf_path_flush(self._at, station, tid, self._reply_at))
+        self._ask_tid(C.wf_path_flush, station, tid)
         return self._reply.count
 
     def rx(self, station: int, class_: int, air: int) -> int:
@@ -224,6 +254,14 @@ class Path(Handle):
         if exchange >> 64 or air >> 32:
             raise out_of_range(exchange=(exchange, 64), air=(air, 32))
         return self._done(_done_lost(self._at, _number(exchange), air, self._reply_at))
+
+    def done_ack(self, exchange: int, acked: bool, air: int = 0) -> Done:
+        """Ends a plain exchange, whose Ack was heard or not. `air` is the measured airtime, or 0 for the one of
+        `pull`. Raises Marked if the transmission has a mark."""
+        if exchange >> 64 or air >> 32:
+            raise out_of_range(exchange=(exchange, 64), air=(air, 32))
+        heard = 1 if acked else 0
+        return self._done(_done_ack(self._at, _number(exchange), heard, air, self._reply_at))
 
     def done_bits(self, exchange: int, start: int, bits: int | bytes, air: int = 0) -> Done:
         """Ends an exchange by the start and the bitmap of a BlockAck: bit n is for the sequence number start
@@ -336,6 +374,20 @@ class Path(Handle):
             raise out_of_range(station=(station, 16))
         self._must(C.wf_path_set_address(self._at, station, address_octets(address)))
 
+    def set_bss(self, station: int, address: bytes) -> None:
+        """Sets the access point's address for a station, live or not, which belongs to another BSS than that of
+        `set_base`."""
+        if station >> 16:
+            raise out_of_range(station=(station, 16))
+        self._must(C.wf_path_set_bss(self._at, station, address_octets(address)))
+
+    def set_aid(self, station: int, aid: int) -> None:
+        """Sets the association identifier of a station, live or not, 1 to 2007. At first it is the station number
+        plus 1."""
+        if station >> 16 or aid >> 16:
+            raise out_of_range(station=(station, 16), aid=(aid, 16))
+        self._must(C.wf_path_set_aid(self._at, station, aid))
+
     @property
     def base(self) -> bytes:
         """The access point's address."""
@@ -401,9 +453,21 @@ class Path(Handle):
         """Returns how many sequence numbers of a station's TID wait to be sent."""
         return self._of_tid(C.wf_path_waiting, station, tid)
 
-    def tim(self) -> bytes:
-        """Returns the TIM element of the stations that sleep and have traffic."""
-        return bytes(self._octets_view[: C.wf_path_tim(self._at, self._octets)])
+    def flying(self, station: int, tid: int) -> int:
+        """Returns how many sequence numbers of a station's TID are on the air, in open exchanges."""
+        return self._of_tid(C.wf_path_flying, station, tid)
+
+    def drained(self, station: int, tid: int) -> bool:
+        """Returns whether no sequence number of a station's TID waits or is on the air. Then an agreement can
+        begin."""
+        return self._of_tid(C.wf_path_drained, station, tid) != 0
+
+    def tim(self, bss: bytes | None = None) -> bytes:
+        """Returns the TIM element of the stations that sleep and have traffic: of all, or of those whose access
+        point has this address."""
+        if bss is None:
+            return bytes(self._octets_view[: C.wf_path_tim(self._at, self._octets)])
+        return bytes(self._octets_view[: C.wf_path_tim_of(self._at, address_octets(bss), self._octets)])
 
     # ---- parts
 
@@ -423,6 +487,12 @@ class Path(Handle):
         if station >> 16:
             raise out_of_range(station=(station, 16))
         self._must(function(self._at, station, out))
+
+    def _ask_tid(self, function: "ctypes._FuncPointer", station: int, tid: int) -> None:
+        """Makes a call that has only a station and a TID."""
+        if station >> 16 or tid >> 8:
+            raise out_of_range(station=(station, 16), tid=(tid, 8))
+        self._must(function(self._at, station, tid, self._reply_at))
 
     def _of_tid(self, function: "ctypes._FuncPointer", station: int, tid: int) -> int:
         """Reads a count that belongs to a station's TID."""

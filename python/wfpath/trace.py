@@ -30,6 +30,11 @@ FIELDS: dict[CallKind, tuple[str, ...]] = {
     CallKind.FLUSH: ("station", "tid"),
     CallKind.OFFLOAD: ("station", "exponent", "weight"),
     CallKind.WEIGHT: ("station", "weight"),
+    CallKind.PLAIN: ("station", "start", "exponent", "weight"),
+    CallKind.HOLD: ("station", "tid"),
+    CallKind.BEGIN: ("station", "tid", "window"),
+    CallKind.FREE: ("station", "tid"),
+    CallKind.CEASE: ("station", "tid"),
 }
 WORDS = {CallKind.ENQUEUE: "enq"}
 
