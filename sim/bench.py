@@ -11,6 +11,7 @@ from collections import deque
 from collections.abc import Callable, Mapping, Sequence
 from dataclasses import dataclass
 
+from .agreements import Agreements
 from .arrivals import Arrivals
 from .clock import Clock
 from .device import REPORT, Device
@@ -33,7 +34,7 @@ class Served:
 
     airtime: int = 0  # microseconds that exchanges to it were charged
     uplink: int = 0  # microseconds of what it sent
-    access: int = 0  # microseconds of access before either
+    access: int = 0  # microseconds of access before either, and of ADDBA exchanges
     aggregates: int = 0
     transmissions: int = 0
     retries: int = 0
@@ -50,6 +51,7 @@ class Bench:
         self.warmup = round(scenario.warmup * 1e6)
         self.medium = Medium(scenario.air, scenario.seed)
         self.access_point = AccessPoint()
+        self.agreements = Agreements(scenario, path, self.access_point)
         self.device = Device(scenario.setting("attempts"))
         self.uplinks = [Uplink(station, scenario.setting("cap")) for station in scenario.stations]
         self.open = dict.fromkeys(CLASSES, 0)
@@ -165,6 +167,7 @@ class Bench:
         """A station leaves when its last open exchange has ended; nothing more comes in for it."""
         self.here[station.number] = False
         self.uplinks[station.number].leave()
+        self.agreements.cancel(station)
         self.cancel(station)
         if self.open_of[station.number]:
             self.leaving.add(station.number)
@@ -182,10 +185,12 @@ class Bench:
 
     def sleep(self, station: Station) -> None:
         self.path.sleep(station)
+        self.agreements.sleep(station)
         self.cancel(station)
 
     def wake(self, station: Station) -> None:
         self.path.wake(station)
+        self.agreements.wake(station)
         self.may_send = dict.fromkeys(CLASSES, True)
         self.unblock()
 
@@ -327,6 +332,8 @@ class Bench:
             self.access_point.add(exchange)
             if exchange.is_batch:
                 self.device.add(exchange)
+            if exchange.is_plain:
+                self.agreements.opened(exchange)
 
     def start_air(self) -> None:
         """Begins the next exchange, of the access point or of a station, if there is one."""
@@ -341,7 +348,7 @@ class Bench:
             self.clock.at(self.clock.now + access + upward.air, lambda: self.finish_uplink(upward, access))
         else:
             exchange = self.access_point.take()
-            finish = self.finish_batch if exchange.is_batch else self.finish
+            finish = self.finish_batch if exchange.is_batch else self.finish_addba if exchange.is_addba else self.finish
             self.clock.at(self.clock.now + access + exchange.air, lambda: finish(exchange, access))
 
     def draw(self, station: Station, numbers: random.Random, count: int) -> list[bool]:
@@ -362,7 +369,17 @@ class Bench:
             exchange.charge = self.measured(station, used)
         self.count(exchange, access, used, exchange.frames)
         self.receivers.receive_all(self.path.finish(exchange, arrived, heard))
+        if exchange.is_plain:
+            self.agreements.ended(exchange)
         self.remove_if_leaving(station)
+
+    def finish_addba(self, exchange: Exchange, access: int) -> None:
+        """An ADDBA request and its response end. They are charged to no station."""
+        self.medium.is_busy = False
+        if self.agreements.answered(exchange):
+            self.may_send[CLASS_OF_TID[exchange.tid]] = True
+        if self.clock.now > self.warmup:
+            self.served[exchange.station].access += exchange.air + access
 
     def outcome(self, station: Station, count: int) -> tuple[list[bool], bool]:
         """Draws which of this many transmissions arrived, and whether the BlockAck was heard."""

@@ -107,6 +107,8 @@ class Cell(Held):
         values = {"station": station.number, "exponent": 3, "weight": station.weight}
         if station.offload:
             self.must(CallKind.OFFLOAD, **values)
+        elif station.plain:
+            self.must(CallKind.PLAIN, start=0, **values)
         else:
             self.must(CallKind.JOIN, window=station.window, start=0, **values)
 
@@ -128,6 +130,15 @@ class Cell(Held):
     def wake(self, station: Station) -> None:
         self.must(CallKind.WAKE, station=station.number)
         self.asleep.discard(station.number)
+
+    def hold(self, station: Station, tid: int) -> None:
+        self.must(CallKind.HOLD, station=station.number, tid=tid)
+
+    def begin(self, station: Station, tid: int) -> None:
+        self.must(CallKind.BEGIN, station=station.number, tid=tid, window=station.window)
+
+    def free(self, station: Station, tid: int) -> None:
+        self.must(CallKind.FREE, station=station.number, tid=tid)
 
     def poll(self, station: Station) -> str | None:
         if self.ask(CallKind.POLL, station=station.number):
@@ -200,7 +211,8 @@ class Cell(Held):
         reply, frames = self.reply, self.frames
         self.raw.read_frames(self.at, self.raw.frames_at)
         frames = [frames[number] for number in self.sent_ids[: self.raw.frames.count]]
-        return Exchange(reply.exchange, reply.station, reply.tid, reply.air, frames, is_batch=bool(reply.batch))
+        kinds = {"is_batch": bool(reply.batch), "is_plain": bool(reply.plain)}
+        return Exchange(reply.exchange, reply.station, reply.tid, reply.air, frames, **kinds)
 
     def finish(self, exchange: Exchange, arrived: Sequence[bool], heard: bool) -> list[Frame]:
         indices = [index for index, has_arrived in enumerate(arrived) if has_arrived]

@@ -128,17 +128,25 @@ def read_points(given: argparse.Namespace) -> list[Point]:
     return found
 
 
+def check_model(name: str, scenario: Scenario) -> None:
+    """Refuses a model for a scenario that only the machine can run."""
+    if any(station.sleeps for station in scenario.stations):
+        raise Fault(f"{name}: models have no power save, and stations of this scenario sleep: expected {MACHINE} alone")
+    if any(station.offload for station in scenario.stations):
+        raise Fault(f"{name}: models have no offloaded stations, and this scenario has some: expected {MACHINE} alone")
+    if any(station.plain for station in scenario.stations):
+        raise Fault(f"{name}: in models all agreements begin at the join, and in this scenario some do not: expected {MACHINE} alone")
+
+
 def choices_of(given: argparse.Namespace, scenario: Scenario) -> list[Choice]:
-    """The paths to run over. A model has no power save and no offloaded stations."""
+    """The paths to run over. A model has no power save, no offloaded stations, and no agreements that begin later."""
     if given.compare is None:
         choices = choose_all(scenario.compare, f"{given.scenario}: compare")
     else:
         choices = choose_all(given.compare.split(","), "--compare")
     for choice in choices:
-        if not choice.is_machine and any(station.sleeps for station in scenario.stations):
-            raise Fault(f"{choice.name}: models have no power save, and stations of this scenario sleep: expected {MACHINE} alone")
-        if not choice.is_machine and any(station.offload for station in scenario.stations):
-            raise Fault(f"{choice.name}: models have no offloaded stations, and this scenario has some: expected {MACHINE} alone")
+        if not choice.is_machine:
+            check_model(choice.name, scenario)
     if given.trace and not any(choice.is_machine for choice in choices):
         raise Fault(f"--trace: only {MACHINE} makes a trace, and it is not compared: add it to --compare")
     return choices

@@ -45,6 +45,8 @@ class Exchange:
     frames: list[Frame]
     charge: int | None = None  # the airtime that the driver measured, if it charges that
     is_batch: bool = False  # whether the station's device numbers and repeats the frames
+    is_plain: bool = False  # whether it is one frame without an agreement
+    is_addba: bool = False  # whether it is an ADDBA request with its response, which the path does not know
 
     @property
     def charged(self) -> int:
@@ -115,6 +117,15 @@ class Path(ABC):
 
     def report(self, exchange: Exchange, acked: Sequence[int], unsent: Sequence[int], is_over: bool) -> None:
         """Reports which frames of a batch were acknowledged and which were never sent, by index, and whether the batch ends."""
+
+    def hold(self, station: Station, tid: int) -> None:
+        """Holds a TID without an agreement: only a frame that was sent before is sent. A model has all agreements."""
+
+    def begin(self, station: Station, tid: int) -> None:
+        """Begins the agreement of a held TID, with the station's window."""
+
+    def free(self, station: Station, tid: int) -> None:
+        """Lets the frames of a held TID go one at a time again."""
 
     def received(self, station: Station, frame_class: str, air: int) -> None:
         """Charges a station for airtime that it used to send. A path without an airtime scheduler ignores it."""

@@ -137,7 +137,12 @@ class Machine(Held):
         return answer
 
     def join(self, station: Station) -> None:
-        form = f"offload {station.number}" if station.offload else f"join {station.number} {station.window} 0"
+        if station.offload:
+            form = f"offload {station.number}"
+        elif station.plain:
+            form = f"plain {station.number} 0"
+        else:
+            form = f"join {station.number} {station.window} 0"
         self.must(f"{form} 3 {station.weight}", "joined")
 
     def leave(self, station: Station) -> None:
@@ -154,6 +159,15 @@ class Machine(Held):
     def wake(self, station: Station) -> None:
         self.must(f"wake {station.number}", "woken")
         self.asleep.discard(station.number)
+
+    def hold(self, station: Station, tid: int) -> None:
+        self.must(f"hold {station.number} {tid}", "held")
+
+    def begin(self, station: Station, tid: int) -> None:
+        self.must(f"begin {station.number} {tid} {station.window}", "begun")
+
+    def free(self, station: Station, tid: int) -> None:
+        self.must(f"free {station.number} {tid}", "freed")
 
     def poll(self, station: Station) -> str | None:
         answer = self.ask([f"poll {station.number}"])[0].split()
@@ -179,7 +193,7 @@ class Machine(Held):
         listed = words[9:] if words[8] != "bar" else []
         frames = [self.frames[int(word.partition(":")[0])] for word in listed if word != "more"]
         number, station, tid, air = (int(words[at]) for at in (1, 3, 5, 7))
-        return Exchange(number, station, tid, air, frames, is_batch=words[8] == "batch")
+        return Exchange(number, station, tid, air, frames, is_batch=words[8] == "batch", is_plain=words[8] == "plain")
 
     def finish(self, exchange: Exchange, arrived: Sequence[bool], heard: bool) -> list[Frame]:
         number = exchange.number

@@ -37,7 +37,7 @@ class AccessPoint(Contender):
         self.count += 1
 
     def add_again(self, exchange: Exchange) -> None:
-        """Takes a batch that the device repeats, before the others of its class."""
+        """Takes a batch that the device repeats, or an ADDBA request, before the others of its class."""
         self.waiting[CLASS_OF_TID[exchange.tid]].insert(0, exchange)
         self.count += 1
 

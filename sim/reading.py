@@ -20,6 +20,7 @@ MOST_SEED = 2**63 - 1
 MOST_STATIONS = 256
 LONGEST_ANSWER = SIFS + WIDE_BLOCK_ACK  # microseconds after the data of an exchange
 STANDARD_LOSS = 0.001
+AGREEMENTS = ("join", "first-frame")  # when agreements begin
 RATE_EXPECTED = 'a rate as in a trace, such as "15 20 short", "vht 9 80 short 2" or "he 11 80 800 2"'
 
 
@@ -161,9 +162,12 @@ def read_station(table: Table, group: str, seconds: float) -> Station:
         charge_bias=table.number("charge_bias", -0.99, 10, 0),
         charge_error=table.number("charge_error", 0, 1, 0),
         offload=table.flag("offload"),
+        plain=table.one_of("agreements", AGREEMENTS, AGREEMENTS[0]) == AGREEMENTS[1],
     )
     if station.offload and table.has("window"):
         raise table.wrong("window", "no window, since the device of an offloaded station has its own")
+    if station.offload and table.has("agreements"):
+        raise table.wrong("agreements", "no agreements, since the device of an offloaded station makes its own")
     table.finish()
     return station
 

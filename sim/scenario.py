@@ -56,6 +56,7 @@ class Station:
     charge_bias: float = 0.0  # of the airtime that the driver measures: its mean error, and the standard deviation, as shares
     charge_error: float = 0.0
     offload: bool = False  # whether the device numbers, aggregates and repeats its frames
+    plain: bool = False  # whether it joins without agreements: that of a TID begins at its first frame
 
     @property
     def is_measured(self) -> bool:

@@ -56,6 +56,8 @@ class Command(InAFolder):
         self.refused("wf sim: --frames: expected --json FILE next to it", "--frames")
         self.file.write_text(SLEEPER, encoding="utf-8")
         self.refused("wf sim: fifo: models have no power save", "--compare", "fifo")
+        self.file.write_text(ONE_STATION.replace("loss = 0", 'agreements = "first-frame"'), encoding="utf-8")
+        self.refused("wf sim: fifo: in models all agreements begin at the join", "--compare", "fifo")
         self.file.write_text("seconds = 1\n", encoding="utf-8")
         self.refused("one.toml: station is missing: expected a table [[station]]")
 
