@@ -1,5 +1,5 @@
 /*
- * The machine of wf_show_gate behind three locks, for comparison with the gate: each thread makes calls, and adds some octets to its
+ * The machine of wf_show_gate under three locks, for comparison with the gate: each thread makes calls, and adds some octets to its
  * own sum at each.
  *
  *   locks mutex|spin|yield THREADS CALLS
@@ -140,7 +140,7 @@ static int64_t number_in(const char *word, int64_t most)
 	return end != word && *end == '\0' && number >= 0 && number <= most ? number : -1;
 }
 
-/* Runs the workers, and gives the sum of their sums; ends the program where a thread cannot be made. */
+/* Runs the workers, and returns the sum of their sums. Ends the program if a thread cannot be made. */
 static uint64_t run(void *(*way)(void *), struct shared *shared, uint32_t threads, uint32_t calls)
 {
 	static pthread_t made[MOST_THREADS];

@@ -1,5 +1,5 @@
 /* Laid before a program by LD_PRELOAD: the request for memory whose number FAILING_REQUEST names is refused, and a file is left at
- * FAILING_MARK where it came to that. The program asks by malloc and realloc alone. */
+ * FAILING_MARK if there was such a request. The program asks by malloc and realloc alone. */
 #define _GNU_SOURCE
 #include <dlfcn.h>
 #include <errno.h>

@@ -66,7 +66,8 @@ static struct wf_call some_call(void) {
                                   WF_CALL_ENQUEUE, WF_CALL_ENQUEUE, WF_CALL_ENQUEUE, WF_CALL_PULL, WF_CALL_PULL, WF_CALL_DONE,
                                   WF_CALL_DONE,    WF_CALL_SLEEP,   WF_CALL_WAKE,    WF_CALL_POLL, WF_CALL_RX,   WF_CALL_REAP,
                                   WF_CALL_REAP,    WF_CALL_REAP,    WF_CALL_AMPDU,   WF_CALL_STOP, WF_CALL_START, WF_CALL_START,
-                                  WF_CALL_UNSENT,  WF_CALL_GIVEUP,  WF_CALL_FLUSH,   WF_CALL_OFFLOAD, WF_CALL_WEIGHT};
+                                  WF_CALL_UNSENT,  WF_CALL_GIVEUP,  WF_CALL_FLUSH,   WF_CALL_OFFLOAD, WF_CALL_WEIGHT,
+                                  WF_CALL_PLAIN,   WF_CALL_HOLD,    WF_CALL_BEGIN,   WF_CALL_BEGIN, WF_CALL_FREE, WF_CALL_CEASE};
   struct wf_call call = {0};
   call.kind = KINDS[below(sizeof KINDS)];
   if (call.kind == WF_CALL_LEAVE && below(8)) call.kind = WF_CALL_JOIN;
@@ -142,6 +143,11 @@ static int32_t single(struct wf_path *path, const struct wf_call *call, int is_b
     case WF_CALL_FLUSH: return wf_path_flush(path, call->station, call->tid, reply);
     case WF_CALL_OFFLOAD: return wf_path_join_offload(path, call->station, call->exponent, call->weight, reply);
     case WF_CALL_WEIGHT: return wf_path_weight(path, call->station, call->weight, reply);
+    case WF_CALL_PLAIN: return wf_path_plain(path, call->station, call->start, call->exponent, call->weight, reply);
+    case WF_CALL_HOLD: return wf_path_hold(path, call->station, call->tid, reply);
+    case WF_CALL_BEGIN: return wf_path_begin(path, call->station, call->tid, call->window, reply);
+    case WF_CALL_FREE: return wf_path_free_tid(path, call->station, call->tid, reply);
+    case WF_CALL_CEASE: return wf_path_cease(path, call->station, call->tid, reply);
     default: return reap(path, reply);
   }
 }

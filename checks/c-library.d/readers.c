@@ -9,9 +9,9 @@
 
 #include "wf.h"
 
-enum { THREADS = 4, ROUNDS = 1000 };
+enum { THREADS = 4, ROUNDS = 1000, TAG = 7 };
 
-/* What stands in the memory that cannot be written. */
+/* The content of the memory that cannot be written. */
 struct handles {
   struct wf_path path;
   struct wf_cell cell;
@@ -29,6 +29,7 @@ static int fill(struct handles *handles) {
   struct wf_packet packet = {0};
   packet.body = body;
   packet.length = sizeof body;
+  packet.tag = TAG;
   wf_settings_standard(&settings);
   if (wf_path_make(&handles->path, &settings) || wf_path_join(&handles->path, 0, 64, 0, 3, 1, &reply)) return 0;
   if (wf_path_enqueue(&handles->path, 0, &packet, &reply)) return 0;
@@ -38,24 +39,39 @@ static int fill(struct handles *handles) {
   return wf_cell_make(&handles->cell, &settings) == WF_OK && wf_cell_ask(&handles->cell, 0, &call, &reply) == WF_OK;
 }
 
+/* The TID of the frame that is on the air. */
+static int read_tid(const struct wf_path *path) {
+  uint32_t queued = 1, waiting = 1, flying = 0, drained = 1;
+  return wf_path_queued(path, 0, 0, &queued) == WF_OK && queued == 0 &&
+         wf_path_waiting(path, 0, 0, &waiting) == WF_OK && waiting == 0 &&
+         wf_path_flying(path, 0, 0, &flying) == WF_OK && flying == 1 &&
+         wf_path_drained(path, 0, 0, &drained) == WF_OK && drained == 0;
+}
+
+/* The exchange that sends it. */
+static int read_exchange(const struct wf_path *path) {
+  uint8_t out[WF_GREATEST_MPDU] = {0}, header[WF_HEADER] = {0};
+  struct wf_sent sent = {0};
+  uint64_t id = 1, tag = 0;
+  size_t size = 0;
+  return wf_path_sent(path, exchange, &sent) == WF_OK && sent.count == 1 &&
+         wf_path_frame_id(path, exchange, 0, &id) == WF_OK && id == 0 &&
+         wf_path_frame_tag(path, exchange, 0, &tag) == WF_OK && tag == TAG &&
+         wf_path_mpdu(path, exchange, 0, out, sizeof out, &size) == WF_OK && size == 1526 &&
+         wf_path_header(path, exchange, 0, header) == WF_OK && memcmp(header, out, sizeof header) == 0;
+}
+
 static int read_path(const struct wf_path *path) {
-  uint8_t out[WF_GREATEST_MPDU] = {0}, tim[256] = {0};
+  uint8_t tim[256] = {0}, base[6] = {0}, address[6] = {0};
   struct wf_tally tally = {0};
   struct wf_share share = {0};
-  struct wf_sent sent = {0};
-  uint64_t id = 0;
-  uint32_t queued = 1, waiting = 1;
-  size_t size = 0;
-  uint8_t base[6] = {0}, address[6] = {0};
   wf_path_tally(path, &tally);
   wf_path_base(path, base);
   if (base[0] != 2 || wf_path_address(path, 1, address) || address[5] != 1) return 0;
   return wf_path_now(path) == 0 && wf_path_exchanges(path) == 1 && wf_path_open_count(path) == 1 && wf_path_live(path, 0) == 1 &&
-         wf_path_share(path, 0, WF_BE, &share) == WF_OK && wf_path_sent(path, exchange, &sent) == WF_OK && sent.count == 1 &&
-         wf_path_frame_id(path, exchange, 0, &id) == WF_OK && wf_path_mpdu(path, exchange, 0, out, sizeof out, &size) == WF_OK &&
-         size == 1526 && wf_path_tim(path, tim) == 6 && tally.accepted == 1 && wf_path_can_pull(path, WF_BE) == 0 &&
-         wf_path_listed(path, 0, WF_BE) > 0 && wf_path_listed(path, 1, WF_BE) == 0 && wf_path_has_small_counts(path) == 1 &&
-         wf_path_queued(path, 0, 0, &queued) == WF_OK && queued == 0 && wf_path_waiting(path, 0, 0, &waiting) == WF_OK && waiting == 0;
+         wf_path_share(path, 0, WF_BE, &share) == WF_OK && wf_path_tim(path, tim) == 6 && wf_path_tim_of(path, base, tim) == 6 &&
+         tally.accepted == 1 && wf_path_can_pull(path, WF_BE) == 0 && wf_path_listed(path, 0, WF_BE) > 0 &&
+         wf_path_listed(path, 1, WF_BE) == 0 && wf_path_has_small_counts(path) == 1 && read_exchange(path) && read_tid(path);
 }
 
 static int read_cell(const struct wf_cell *cell) {

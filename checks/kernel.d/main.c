@@ -252,6 +252,44 @@ static void other_calls(void) {
   MUST("leave", wf_path_leave(&path, 1, &reply));
 }
 
+/* Sends the frame of a plain exchange, and ends it by an Ack or without one. */
+static void exchange_plain(uint8_t acked) {
+  MUST("pull", wf_path_pull(&path, WF_BE, &reply, &frames));
+  if (!reply.plain || frames.count != 1) fail("a plain exchange", reply.plain);
+  MUST("done_ack", wf_path_done_ack(&path, reply.exchange, acked, 0, &reply));
+}
+
+/* Lets station 1 join without agreements, in its own BSS. An agreement begins while a frame waits to be sent
+ * again, and ends while others do. No other station has frames. */
+static void change_modes(void) {
+  static const uint8_t bss[6] = {0x06, 0, 0, 0, 0, 1};
+  uint32_t flying = 1, drained = 0, waiting = 0;
+  uint8_t tim[256] = {0};
+  MUST("set_bss", wf_path_set_bss(&path, 1, bss));
+  MUST("set_aid", wf_path_set_aid(&path, 1, 2007));
+  MUST("plain", wf_path_plain(&path, 1, 4095, 3, 1, &reply));
+  fill(1);
+  exchange_plain(0);
+  MUST("hold", wf_path_hold(&path, 1, 0, &reply));
+  if (reply.start != 0) fail("the number of a hold", reply.start);
+  exchange_plain(1);
+  MUST("flying", wf_path_flying(&path, 1, 0, &flying));
+  MUST("drained", wf_path_drained(&path, 1, 0, &drained));
+  if (flying || !drained) fail("a TID that is not drained", (int32_t)flying);
+  MUST("begin", wf_path_begin(&path, 1, 0, 64, &reply));
+  MUST("pull", wf_path_pull(&path, WF_BE, &reply, &frames));
+  MUST("done_lost", wf_path_done_lost(&path, reply.exchange, 0, &reply));
+  MUST("sleep", wf_path_sleep(&path, 1, &reply));
+  paint();
+  if (wf_path_tim_of(&path, bss, tim) != 6 || tim[4] != (250 & 0xfe)) fail("the TIM of a BSS", tim[4]);
+  note();
+  MUST("waiting", wf_path_waiting(&path, 1, 0, &waiting));
+  MUST("cease", wf_path_cease(&path, 1, 0, &reply));
+  if (reply.count == 0 || reply.count != waiting) fail("the frames of an agreement", (int32_t)reply.count);
+  MUST("free_tid", wf_path_free_tid(&path, 1, 0, &reply));
+  MUST("leave", wf_path_leave(&path, 1, &reply));
+}
+
 static void make(void) {
   struct wf_settings settings = {0};
   uint16_t station;
@@ -287,6 +325,7 @@ static int run(void) {
   }
   report_each();
   other_calls();
+  change_modes();
   count += reap();
   wf_path_tally(&path, &tally);
   wf_path_free(&path);

@@ -22,7 +22,7 @@ from wfdev.harness.script import Script
 
 SCRIPT = Script("allocations")
 SHIM = SCRIPT.folder / "failing_memory.c"
-SIZES = {"soak": ["1", "40"], "live": ["7", "2", "5"]}
+SIZES = {"soak": ["1", "40", "agreements"], "live": ["7", "2", "5"]}
 
 
 @dataclass(frozen=True)

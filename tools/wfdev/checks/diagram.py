@@ -1,4 +1,4 @@
-"""Draws what crates.txt has: the rooms, the crates of each, their heights, and how much depends on each crate.
+"""Draws what crates.txt has: the rooms, the crates of each, their heights, what each crate is, and how much depends on it.
 
   checks/diagram            prints the body of docs/generated/crates.md
   checks/diagram --write    writes that page
@@ -8,6 +8,7 @@ Minutes come from bench/gate.seconds, lines `CRATE SECONDS` that bench/gate writ
 and a crate that it lacks has no figure, nor have those below it.
 """
 import math
+import re
 import sys
 from collections.abc import Iterator, Sequence
 from dataclasses import dataclass
@@ -94,6 +95,14 @@ def seconds_of(path: Path) -> dict[str, float]:
     return {row[0]: float(row[1]) for row in rows if row}
 
 
+def sentence_of(name: str, top: Path) -> str:
+    """Returns the first sentence of a crate's own words."""
+    sources = (top / "crates" / name / "src" / f"{kind}.rt" for kind in ("lib", "main"))
+    text = next((paths.read(source) for source in sources if source.exists()), "")
+    words = " ".join(re.findall(r"^//! ?(.*)$", text, re.M))
+    return re.split(r"(?<=\.)(?: |$)", words, maxsplit=1)[0]
+
+
 def wrapped(text: str, indent: str) -> list[str]:
     """Returns a text in lines of the page's width."""
     lines = [indent]
@@ -126,6 +135,18 @@ def diagram(tree: Tree) -> Iterator[str]:
     yield f"{len(tree.known)} crates, {round(sum(tree.lines.values()) / 1000)} thousand lines; the longest chain has {tallest + 1} crates"
 
 
+def sentences(tree: Tree) -> Iterator[str]:
+    """Yields an item for each crate: what it is."""
+    for name in tree.known:
+        yield from hung(f"{name}: {sentence_of(name, tree.top)}")
+
+
+def hung(text: str) -> list[str]:
+    """Returns an item of a list in lines of the page's width."""
+    first, *rest = wrapped(text, "  ")
+    return [f"- {first.strip()}", *rest]
+
+
 def table(tree: Tree) -> Iterator[str]:
     """Yields the table of the crates that are proved again after a change in each crate."""
     measured, whole = bool(tree.seconds), sum(tree.lines.values())
@@ -140,7 +161,9 @@ def table(tree: Tree) -> Iterator[str]:
 def body(tree: Tree) -> str:
     """Returns the body of the page."""
     drawing = ["```text", *diagram(tree), "```"]
-    return "\n".join([*wrapped(LEGEND, ""), "", *drawing, "", "## Crates above each crate", "", *wrapped(ABOVE, ""), "", *table(tree)])
+    said = ["## Each crate in a sentence", "", *sentences(tree)]
+    above = ["## Crates above each crate", "", *wrapped(ABOVE, ""), "", *table(tree)]
+    return "\n".join([*wrapped(LEGEND, ""), "", *drawing, "", *said, "", *above])
 
 
 def main(words: Sequence[str] | None = None) -> int:

@@ -22,7 +22,7 @@ SCRIPT = Script("freed")
 TEXTS = {"wf_part_trials": Script("part-trials"), "wf_command_trials": Script("command-trials"), "left_behind": SCRIPT}
 ALL = ["wf_tests", *TEXTS, "wf"]
 TOOL = ["valgrind", "--leak-check=full", "--show-leak-kinds=all", "--errors-for-leak-kinds=all", "--error-exitcode=9"]
-SIZES = {"soak": ["1", "20000"], "live": ["1", "2", "50"]}
+SIZES = {"soak": ["1", "20000", "agreements"], "live": ["1", "2", "50"]}
 TRACE = SCRIPT.folder / "left-behind.trace"
 SHOWN = 20
 

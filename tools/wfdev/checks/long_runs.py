@@ -62,9 +62,9 @@ class Watch:
 
 
 def soak(watch: Watch, draws: random.Random) -> None:
-    """Two soaks of one seed, of devices or not, write the same text."""
+    """Two soaks of one seed and kind write the same text."""
     words = ["soak", str(draws.getrandbits(64)), str(draws.choice([1, 100, 5000, 100000, 1000000]))]
-    words += draws.choice([[], ["device"]])
+    words += draws.choice([[], ["device"], ["agreements"]])
     kind = f"soak of {' '.join(words[2:])}"
     if watch.run(kind, words) != watch.run(kind, words):
         raise Difference(f"wf {' '.join(words)} wrote two texts")
@@ -98,6 +98,9 @@ def call(draws: random.Random, opened: int) -> str:
             *[f"answer {some}"] * 2,
             *[f"done {some} {draws.choice(['heard', 'lost'])}"] * 3,
             f"done {some} {draws.choice(['heard', 'lost'])} air {draws.choice([0, 1, 5000, 5001])}",
+            f"plain {station} {draws.randrange(4097)} {draws.randrange(5)}",
+            *[f"{draws.choice(['hold', 'free', 'cease', 'flush'])} {station} {tid}"] * 2,
+            f"begin {station} {tid} {draws.choice([1, 2, 64, 65, 256])}",
             f"sleep {station}",
             f"wake {station}",
             f"poll {station}",

@@ -20,7 +20,10 @@ from wfdev.repo import crates, generated, paths
 
 SCRIPT = Script("modules")
 # Modules that are public before another crate imports them.
-EARLY = {("wf_law_driver", "Shown"), ("wf_law_runs", "Offloads"), ("wf_send_half", "Times")}
+EARLY = {
+    ("wf_law_driver", "Shown"),
+    ("wf_send_half", "Times"),
+}
 
 
 @dataclass(frozen=True)

@@ -26,6 +26,7 @@ PYTHON = paths.TOP / "python"
 OLDEST = (3, 9)
 SECONDS = 600
 MYPY = ["mypy", "--strict", "--python-version", "3.9"]
+EXAMPLE = re.compile(r"```python\n(.*?)```.*?```\n(.*?)```", re.S)
 
 
 def run(
@@ -89,13 +90,14 @@ def run_examples(variables: Mapping[str, str]) -> None:
 
 
 def run_page(variables: Mapping[str, str]) -> None:
-    """Runs the example of the page: it prints the text that the page has after it."""
+    """Runs the examples of the page: each prints the text that the page has after it."""
     page = paths.read(paths.DOCS / "PYTHON.md")
-    found = re.search(r"```python\n(.*?)```.*?```\n(.*?)```", page, re.S)
-    if not found:
-        raise Difference("docs/PYTHON.md has no example with its output")
-    printed = run([sys.executable, "-c", found[1]], variables=variables)
-    expect("what the example of docs/PYTHON.md prints", printed, found[2])
+    examples = EXAMPLE.findall(page)
+    if not examples or len(examples) != page.count("```python\n"):
+        raise Difference("docs/PYTHON.md has no example, or one without its output")
+    for place, (example, wanted) in enumerate(examples, 1):
+        printed = run([sys.executable, "-c", example], variables=variables)
+        expect(f"what example {place} of docs/PYTHON.md prints", printed, wanted)
 
 
 def replay_example(program: Path) -> None:

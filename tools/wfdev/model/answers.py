@@ -31,7 +31,7 @@ def refuse(name: str, is_so: bool, number: int | None = None) -> None:
 
 @dataclass(frozen=True)
 class Word:
-    """An answer of one word: joined, set, slept, woken, stopped, started, marked."""
+    """An answer of one word: joined, set, slept, woken, stopped, started, marked, ack, begun, freed."""
 
     word: str
 
@@ -41,7 +41,7 @@ class Word:
 
 @dataclass(frozen=True)
 class Number:
-    """An answer of a word and a number: left, now, charged, flushed."""
+    """An answer of a word and a number: left, now, charged, flushed, held."""
 
     word: str
     number: int
@@ -63,7 +63,9 @@ class Accepted:
 
 @dataclass(frozen=True)
 class Send:
-    """The answer to a pull: an aggregate of (frame, number), a batch without numbers, or a request with its start."""
+    """The answer to a pull: an aggregate or a plain frame as (frame, number), a batch without numbers, or a request
+    with its start.
+    """
 
     exchange: int
     station: int
@@ -72,6 +74,7 @@ class Send:
     data: tuple[tuple[int, int], ...]
     request: int | None
     batch: bool
+    plain: bool
     more: bool
 
     def __str__(self) -> str:
@@ -82,7 +85,7 @@ class Send:
         if self.batch:
             return f"{head} batch{spaced(frame for frame, _ in self.data)}{more}"
         pairs = spaced(f"{frame}:{number % NUMBERS}" for frame, number in self.data)
-        return f"{head} data{pairs}{more}"
+        return f"{head} {'plain' if self.plain else 'data'}{pairs}{more}"
 
 
 @dataclass(frozen=True)
@@ -93,6 +96,17 @@ class Released:
 
     def __str__(self) -> str:
         return "released" + spaced(self.frames)
+
+
+@dataclass(frozen=True)
+class Ceased:
+    """The answer to a cease: how many frames are dropped, and those that are passed up."""
+
+    dropped: int
+    frames: tuple[int, ...]
+
+    def __str__(self) -> str:
+        return f"ceased {self.dropped}{spaced(self.frames)}"
 
 
 @dataclass(frozen=True)
@@ -139,4 +153,4 @@ class Reaped:
         return f"reaped {self.frame} {self.fate}"
 
 
-Answer = Word | Number | Accepted | Send | Released | Ba | Done | Polled | Reaped | Refused
+Answer = Word | Number | Accepted | Send | Released | Ceased | Ba | Done | Polled | Reaped | Refused

@@ -89,5 +89,10 @@ FORMS = {
     "flush": [Form((STATION, OCTET))],
     "offload": [Form((STATION, OCTET, OCTET), optional=1)],
     "weight": [Form((STATION, OCTET))],
+    "plain": [Form((STATION, SHORT_NUMBER, OCTET, OCTET), optional=1)],
+    "hold": [Form((STATION, OCTET))],
+    "begin": [Form((STATION, OCTET, SHORT_NUMBER))],
+    "free": [Form((STATION, OCTET))],
+    "cease": [Form((STATION, OCTET))],
 }
 LINES = {**FORMS, "end": [Form()]}

@@ -25,6 +25,7 @@ class Fate(enum.StrEnum):
     RETRIES = "retries"
     LEFT = "left"
     FLUSHED = "flushed"
+    ENDED = "ended"
 
 
 CLASS_TIDS = {Class.BK: (1, 2), Class.BE: (0, 3), Class.VI: (4, 5), Class.VO: (6, 7)}

@@ -1,4 +1,4 @@
-"""The twenty-two calls: MACHINE.md, from the table of calls to Power save.
+"""The twenty-seven calls: MACHINE.md, from the table of calls to Power save.
 
 The method of a call begins with its refusals in the order of the table. A refused call raises `Refused`. It
 changes nothing, except if it is `idle`.
@@ -10,6 +10,7 @@ from wfdev.model.answers import (
     Accepted,
     Answer,
     Ba,
+    Ceased,
     Done,
     Number,
     Polled,
@@ -24,14 +25,23 @@ from wfdev.model.grammar import Call
 from wfdev.model.codel import SLOW, USUAL
 from wfdev.model.frames import CLASS_OF, CLASS_TIDS, NUMBERS, TIDS, Class, Fate, Frame
 from wfdev.model.queues import Queues
-from wfdev.model.rates import Bounds, Control, Rate, control_mbps, longest_computed, octets_of, octets_taken
+from wfdev.model.rates import (
+    Bounds,
+    Control,
+    Rate,
+    control_mbps,
+    longest_computed,
+    octets_alone,
+    octets_of,
+    octets_taken,
+)
 from wfdev.model.rotation import Rotation
-from wfdev.model.session import Ended
+from wfdev.model.session import End, Ended
 from wfdev.model.settings import Settings
-from wfdev.model.stations import Exchange, Station
+from wfdev.model.stations import Exchange, Mode, Station
 
 MOST_TICK = 10_000_000
-MOST_WINDOW, MOST_EXPONENT, MOST_WEIGHT, MOST_AIR = 256, 3, 16, 65_535
+PLAIN_WINDOW, MOST_WINDOW, MOST_EXPONENT, MOST_WEIGHT, MOST_AIR = 1, 256, 3, 16, 65_535
 AMPDUS = range(4096, 6_500_632)
 POLL_ORDER = (Class.VO, Class.VI, Class.BE, Class.BK)
 
@@ -99,7 +109,16 @@ class Machine:
         refuse("bad-exponent", exponent > MOST_EXPONENT)
         refuse("bad-weight", not 1 <= weight <= MOST_WEIGHT)
         refuse("live", station in self.stations)
-        return self.admit(Station(station, MOST_WINDOW, 0, exponent, weight, offloaded=True))
+        return self.admit(Station(station, MOST_WINDOW, 0, exponent, weight, mode=Mode.PLAIN, offloaded=True))
+
+    def plain(self, station: int, start: int, exponent: int, weight: int = 1) -> Answer:
+        """A station joins without agreements."""
+        self.numbered(station)
+        refuse("bad-start", start >= NUMBERS)
+        refuse("bad-exponent", exponent > MOST_EXPONENT)
+        refuse("bad-weight", not 1 <= weight <= MOST_WEIGHT)
+        refuse("live", station in self.stations)
+        return self.admit(Station(station, PLAIN_WINDOW, start, exponent, weight, mode=Mode.PLAIN))
 
     def admit(self, held: Station) -> Answer:
         """Makes a station live."""
@@ -145,9 +164,70 @@ class Machine:
         frames = [session.fail(number) for number in session.waiting()]
         frames += self.queues.flush((station, tid))
         self.finish(frames, Fate.FLUSHED)
-        self.stations[station].catch_up(tid)
+        self.stations[station].catch_up_if_plain(tid)
         self.list_ready(station)
         return Number("flushed", len(frames))
+
+    # Agreements.
+
+    def refuse_open(self, station: int, tid: int) -> None:
+        """Refuses a call on a TID with open exchanges."""
+        count = sum((one.station, one.tid) == (station, tid) for one in self.exchanges.values())
+        refuse("open", count > 0, count)
+
+    def hold(self, station: int, tid: int) -> Answer:
+        """No frame of a TID gets a number from now on."""
+        self.numbered(station)
+        refuse("bad-tid", tid >= TIDS)
+        held = self.live(station)
+        refuse("offloaded", held.offloaded)
+        refuse("agreed", held.modes[tid] is Mode.AGREED)
+        refuse("held", held.modes[tid] is Mode.HELD)
+        held.modes[tid] = Mode.HELD
+        self.list_ready(station)
+        return Number("held", held.sessions[tid].next % NUMBERS)
+
+    def begin(self, station: int, tid: int, window: int) -> Answer:
+        """A held TID has an agreement with this window from now on."""
+        self.numbered(station)
+        refuse("bad-tid", tid >= TIDS)
+        refuse("bad-window", not 1 <= window <= MOST_WINDOW)
+        held = self.live(station)
+        refuse("not-held", held.modes[tid] is not Mode.HELD)
+        self.refuse_open(station, tid)
+        waiting = len(held.sessions[tid].waiting())
+        refuse("waits", waiting > 0, waiting)
+        held.catch_up(tid)
+        held.resize(tid, window)
+        held.modes[tid] = Mode.AGREED
+        self.list_ready(station)
+        return Word("begun")
+
+    def free(self, station: int, tid: int) -> Answer:
+        """A held TID sends its frames one at a time from now on."""
+        self.numbered(station)
+        refuse("bad-tid", tid >= TIDS)
+        held = self.live(station)
+        refuse("not-held", held.modes[tid] is not Mode.HELD)
+        held.modes[tid] = Mode.PLAIN
+        self.list_ready(station)
+        return Word("freed")
+
+    def cease(self, station: int, tid: int) -> Answer:
+        """The agreement of a TID ends, and the TID is held."""
+        self.numbered(station)
+        refuse("bad-tid", tid >= TIDS)
+        held = self.live(station)
+        refuse("not-agreed", held.modes[tid] is not Mode.AGREED)
+        self.refuse_open(station, tid)
+        session = held.sessions[tid]
+        frames = [session.fail(number) for number in session.waiting()]
+        self.finish(frames, Fate.ENDED)
+        passed = held.catch_up(tid)
+        held.resize(tid, PLAIN_WINDOW)
+        held.modes[tid] = Mode.HELD
+        self.list_ready(station)
+        return Ceased(len(frames), tuple(passed))
 
     def rate(self, station: int, rate: Rate) -> Answer:
         """A station is sent to at this rate from now on."""
@@ -222,11 +302,17 @@ class Machine:
 
     def can_send(self, station: int, tid: int) -> bool:
         """Returns whether a TID can send."""
-        session = self.stations[station].sessions[tid]
+        held = self.stations[station]
+        session = held.sessions[tid]
         if session.request_is_due():
             of_tid = [one for one in self.exchanges.values() if (one.station, one.tid) == (station, tid)]
             return all(one.request is None for one in of_tid)
-        return bool(session.waiting()) or (self.queues.frames((station, tid)) > 0 and session.has_room())
+        return bool(session.waiting()) or self.can_give(held, tid)
+
+    def can_give(self, held: Station, tid: int) -> bool:
+        """Returns whether a queued frame of a TID can get a number."""
+        has_place = held.modes[tid] is not Mode.HELD and held.sessions[tid].has_room()
+        return has_place and self.queues.frames((held.number, tid)) > 0
 
     def is_ready(self, station: int, access: Class) -> bool:
         """Returns whether a station is ready in a class."""
@@ -305,15 +391,19 @@ class Machine:
     def send(self, held: Station, tid: int, most: int, cap: int) -> Answer:
         """Makes the exchange of a TID that can send, an aggregate within these bounds."""
         session, overhead = held.sessions[tid], self.settings.overhead
-        control = Control(control_mbps(held.rate, self.settings.answers), held.is_wide)
+        control = Control(control_mbps(held.rate, self.settings.answers), session.is_wide)
         number, self.pulled = self.pulled, self.pulled + 1
         if session.request_is_due():
             exchange = Exchange(held.number, tid, control.request_charge, [], session.start)
         else:
             octets = octets_taken(held.rate, held.exponent, held.ampdu)
             numbers = self.aggregate(held, tid, Bounds(1 if held.asleep else most, octets, held.rate, cap, overhead))
-            data = held.rate.time(octets_of([session.length(one) for one in numbers], overhead))
-            exchange = Exchange(held.number, tid, data + control.answer_time, numbers)
+            lengths = [session.length(one) for one in numbers]
+            if held.is_plain(tid):
+                charge = held.rate.time(octets_alone(held.rate, lengths[0], overhead)) + control.ack_time
+            else:
+                charge = held.rate.time(octets_of(lengths, overhead)) + control.answer_time
+            exchange = Exchange(held.number, tid, charge, numbers, plain=held.is_plain(tid))
         exchange.batch = held.offloaded
         if exchange.batch:
             self.batches[number] = exchange.numbers
@@ -322,18 +412,20 @@ class Machine:
         pairs = tuple((session.slots[one].frame.id, one) for one in exchange.numbers)
         more = held.asleep and exchange.request is None and self.holds_more(held)
         self.list_ready(held.number)
-        return Send(number, held.number, tid, exchange.charge, pairs, exchange.request, exchange.batch, more)
+        return Send(
+            number, held.number, tid, exchange.charge, pairs, exchange.request, exchange.batch, exchange.plain, more
+        )
 
     def aggregate(self, held: Station, tid: int, bounds: Bounds) -> list[int]:
         """Makes an aggregate of waiting numbers and fresh frames, and returns its numbers."""
-        session, owner = held.sessions[tid], (held.number, tid)
+        session = held.sessions[tid]
         numbers: list[int] = []
         all_fit = True
         for number in session.waiting():
             all_fit = all_fit and bounds.fits([session.length(one) for one in [*numbers, number]])
             if all_fit:
                 numbers.append(number)
-        while all_fit and len(numbers) < bounds.agg and self.queues.frames(owner) and session.has_room():
+        while all_fit and len(numbers) < bounds.agg and self.can_give(held, tid):
             number = session.add(self.take(held, tid))
             all_fit = bounds.fits([session.length(one) for one in [*numbers, number]])
             if all_fit:
@@ -370,14 +462,14 @@ class Machine:
         return Released(() if one.batch else tuple(passed))
 
     def answer(self, exchange: int) -> Answer:
-        """The station answers an exchange with a BlockAck."""
+        """The station answers an exchange with a BlockAck, or an Ack."""
         one = self.opened(exchange)
         refuse("answered", one.answer is not None)
         refuse("nothing", one.batch or not one.arrived)
         held = self.stations[one.station]
         one.answer = held.receivers[one.tid].answer()
         self.list_ready(one.station)
-        return Ba(one.answer, held.is_wide)
+        return Word("ack") if one.plain else Ba(one.answer, held.sessions[one.tid].is_wide)
 
     def unsent(self, exchange: int, index: int) -> Answer:
         """One transmission of an exchange never went on the air."""
@@ -413,11 +505,14 @@ class Machine:
         ended = {Ended.ACKED: 0, Ended.WAITING: 0, Ended.FAILED: 0}
         for index, number in enumerate(one.numbers):
             frame = session.slots[number].frame
-            how = session.end(number, one.end_of(index, answer), self.settings.attempts)
+            end = one.end_of(index, answer)
+            if one.plain and end is End.MISSED and session.is_far(number):
+                end = End.GIVEN_UP
+            how = session.end(number, end, self.settings.attempts)
             ended[how] += 1
             if how is not Ended.WAITING:
                 self.finish([frame], Fate.ACKED if how is Ended.ACKED else Fate.RETRIES)
-        self.stations[one.station].catch_up(one.tid)
+        self.stations[one.station].catch_up_if_plain(one.tid)
         self.list_ready(one.station)
         return Done(ended[Ended.ACKED], ended[Ended.WAITING], ended[Ended.FAILED])
 

@@ -43,7 +43,7 @@ FASTEST_CONTROL, CONTROL_RATES = 24, (24, 12, 6)  # Mbit/s
 DELIMITER, HEADER, CHECK = 4, 26, 4
 SIFS = 16
 NARROW_WINDOW = 64
-REQUEST_OCTETS, NARROW_OCTETS, WIDE_OCTETS = 20, 28, 52
+ACK_OCTETS, REQUEST_OCTETS, NARROW_OCTETS, WIDE_OCTETS = 10, 20, 28, 52
 
 
 def up(number: int, by: int) -> int:
@@ -122,6 +122,11 @@ def octets_of(bodies: Sequence[int], overhead: int = 0) -> int:
     return total
 
 
+def octets_alone(rate: Rate, body: int, overhead: int = 0) -> int:
+    """Returns the octets of a frame without an agreement. At a rate of HT it has no delimiter."""
+    return octets_of([body], overhead) - (DELIMITER if rate.form is Format.HT else 0)
+
+
 def octets_taken(rate: Rate, exponent: int, stated: int | None) -> int:
     """Returns the most octets of an aggregate, by the exponent or, at VHT and HE, as the station stated."""
     if rate.form is Format.HT:
@@ -148,19 +153,24 @@ class Bounds:
 
 @dataclass(frozen=True)
 class Control:
-    """The control frames with a station: their Mbit/s, and whether its sessions are wide."""
+    """The control frames of a TID: their Mbit/s, and whether its session is wide."""
 
     mbps: int
     is_wide: bool
 
     def time(self, octets: int) -> int:
-        """Returns the microseconds of a request or a BlockAck with these octets before its check sequence."""
+        """Returns the microseconds of a control frame with these octets before its check sequence."""
         return 20 + 4 * up(8 * (octets + CHECK) + 22, 4 * self.mbps)
 
     @property
     def answer_time(self) -> int:
         """The microseconds of the pause and the BlockAck."""
         return SIFS + self.time(WIDE_OCTETS if self.is_wide else NARROW_OCTETS)
+
+    @property
+    def ack_time(self) -> int:
+        """The microseconds of the pause and an Ack."""
+        return SIFS + self.time(ACK_OCTETS)
 
     @property
     def request_charge(self) -> int:

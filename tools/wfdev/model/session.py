@@ -6,6 +6,9 @@ import enum
 from dataclasses import dataclass, field
 
 from wfdev.model.frames import Frame
+from wfdev.model.rates import NARROW_WINDOW
+
+FAR = 2048
 
 
 class State(enum.Enum):
@@ -43,7 +46,7 @@ class Slot:
 
 @dataclass
 class Session:
-    """The window of a TID. `next` is N, and `asked` is R in MACHINE.md."""
+    """The window of a TID. `next` is N, and `asked` is R in MACHINE.md; `acked` is above each acknowledged number."""
 
     window: int
     first: int
@@ -51,9 +54,10 @@ class Session:
     failed: set[int] = field(default_factory=set)
     next: int = field(init=False)
     asked: int = field(init=False)
+    acked: int = field(init=False)
 
     def __post_init__(self) -> None:
-        self.next = self.asked = self.first
+        self.next = self.asked = self.acked = self.first
 
     @property
     def start(self) -> int:
@@ -63,6 +67,15 @@ class Session:
     def has_room(self) -> bool:
         """Returns whether a fresh number is inside the window."""
         return self.next < self.start + self.window
+
+    @property
+    def is_wide(self) -> bool:
+        """Whether its BlockAcks have 256 bits."""
+        return self.window > NARROW_WINDOW
+
+    def is_far(self, number: int) -> bool:
+        """Returns whether a number without an agreement is 2,048 or more above the last acknowledged one."""
+        return number - (self.acked - 1) >= FAR
 
     def request_is_due(self) -> bool:
         """Returns whether the receiver may wait for a number that failed."""
@@ -96,6 +109,7 @@ class Session:
         """Ends a transmission of a number; it fails with this many attempts in vain."""
         if end is End.ACKNOWLEDGED:
             del self.slots[number]
+            self.acked = max(self.acked, number + 1)
             return Ended.ACKED
         slot = self.slots[number]
         slot.attempts += end is End.MISSED

@@ -1,10 +1,19 @@
 """A live station, and the exchanges with it: MACHINE.md, Stations and clock, and Exchanges."""
+import enum
 from dataclasses import dataclass, field
 
 from wfdev.model.frames import CLASS_TIDS, TIDS, Class
-from wfdev.model.rates import LOWEST, NARROW_WINDOW, Rate
+from wfdev.model.rates import LOWEST, Rate
 from wfdev.model.receiver import BlockAck, Receiver
 from wfdev.model.session import End, Session
+
+
+class Mode(enum.Enum):
+    """The mode of a TID: its frames go one at a time, no frame gets a number, or there is an agreement."""
+
+    PLAIN = "plain"
+    HELD = "held"
+    AGREED = "agreed"
 
 
 def zeros() -> dict[Class, int]:
@@ -21,6 +30,7 @@ def first_turns() -> dict[Class, int]:
 class Station:
     """A live station. `turns` has the TID whose turn it is in each class; `credit` is the class of a poll.
 
+    All of its TIDs begin with the mode `mode`; `modes` has their modes now.
     `ampdu` is the most octets of its aggregates of VHT and HE, if that was stated. The device of one that is
     `offloaded` numbers, aggregates and repeats its frames.
     """
@@ -32,6 +42,7 @@ class Station:
     weight: int
     rate: Rate = LOWEST
     ampdu: int | None = None
+    mode: Mode = Mode.AGREED
     offloaded: bool = False
     stopped: bool = False
     asleep: bool = False
@@ -39,24 +50,33 @@ class Station:
     turns: dict[Class, int] = field(default_factory=first_turns)
     charged: dict[Class, int] = field(default_factory=zeros)
     received: dict[Class, int] = field(default_factory=zeros)
+    modes: list[Mode] = field(init=False)
     sessions: list[Session] = field(init=False)
     receivers: list[Receiver] = field(init=False)
 
     def __post_init__(self) -> None:
+        self.modes = [self.mode] * TIDS
         self.sessions = [Session(self.window, self.first) for _ in range(TIDS)]
         self.receivers = [Receiver(self.window, self.first) for _ in range(TIDS)]
 
-    @property
-    def is_wide(self) -> bool:
-        """Whether the sessions are wide."""
-        return self.window > NARROW_WINDOW
+    def is_plain(self, tid: int) -> bool:
+        """Returns whether a TID has no agreement and no device that makes one."""
+        return not self.offloaded and self.modes[tid] is not Mode.AGREED
 
-    def catch_up(self, tid: int) -> None:
-        """The device of an offloaded station tells its peer where the window of a TID starts."""
-        if self.offloaded:
-            start = self.sessions[tid].start
-            self.sessions[tid].hear_request(start)
-            self.receivers[tid].request(start)
+    def catch_up(self, tid: int) -> list[int]:
+        """Both sides of a TID agree on the start of its window. Returns the frames that are passed up."""
+        start = self.sessions[tid].start
+        self.sessions[tid].hear_request(start)
+        return self.receivers[tid].request(start)
+
+    def catch_up_if_plain(self, tid: int) -> None:
+        """Without an agreement no request tells the receiver where the window starts."""
+        if self.modes[tid] is not Mode.AGREED:
+            self.catch_up(tid)
+
+    def resize(self, tid: int, window: int) -> None:
+        """A TID has this window from now on."""
+        self.sessions[tid].window = self.receivers[tid].window = window
 
 
 @dataclass
@@ -65,7 +85,7 @@ class Exchange:
 
     `unsent` and `given_up` have the indices of the transmissions that never went on the air, and of those that the
     device will not try again. The device itself numbers and repeats the frames of a `batch`, and says which of them
-    were acknowledged: these arrived.
+    were acknowledged: these arrived. An Ack answers the frame of a `plain` one.
     """
 
     station: int
@@ -78,6 +98,7 @@ class Exchange:
     unsent: set[int] = field(default_factory=set)
     given_up: set[int] = field(default_factory=set)
     batch: bool = False
+    plain: bool = False
 
     def has_mark(self, index: int) -> bool:
         """Returns whether a transmission is marked."""

@@ -46,8 +46,8 @@ def summary(machine: Machine) -> Iterator[str]:
     order = (Fate.ACKED, Fate.OVERLIMIT, Fate.CODEL, Fate.RETRIES, Fate.LEFT, Fate.HELD)
     yield f"calls {machine.calls}"
     yield f"now {machine.now}"
-    flushed = (Fate.FLUSHED,) if fates[Fate.FLUSHED] else ()
-    yield f"frames {len(machine.frames)} " + " ".join(f"{fate} {fates[fate]}" for fate in (*order, *flushed))
+    later = [fate for fate in (Fate.FLUSHED, Fate.ENDED) if fates[fate]]
+    yield f"frames {len(machine.frames)} " + " ".join(f"{fate} {fates[fate]}" for fate in (*order, *later))
     yield f"exchanges {machine.pulled} open {len(machine.exchanges)}"
     for _, held in sorted(machine.stations.items()):
         yield from station_lines(machine, held)

@@ -28,6 +28,11 @@ FORMS: dict[str, tuple[str, ...]] = {
     "flush": ("station", "tid"),
     "offload": ("station", "exponent", "weight"),
     "weight": ("station", "weight"),
+    "plain": ("station", "start", "exponent", "weight"),
+    "hold": ("station", "tid"),
+    "begin": ("station", "tid", "window"),
+    "free": ("station", "tid"),
+    "cease": ("station", "tid"),
 }
 RATES: dict[str, tuple[str, ...]] = {
     "ht": ("station", "mcs", "mhz", "short_guard"),
@@ -93,7 +98,7 @@ def read(text: str) -> Call:
     if kind == "pull":
         return Call(kind, caller, pull_fields(rest))
     fields = named(FORMS[kind], rest)
-    if kind in ("join", "offload"):
+    if kind in ("join", "offload", "plain"):
         fields.setdefault("weight", 1)
     if kind == "done" and len(rest) == 4:
         fields["air"] = int(rest[3])

@@ -9,7 +9,7 @@ from collections.abc import Callable, Iterable
 
 from . import calls, replies, rules
 from .calls import Call
-from .ledger import Exchange, Ledger, Station
+from .ledger import CLASSES, Exchange, Ledger, Station
 from .replies import Reply
 from .runs import Answered, Event, Faulted, Headed, Summed
 
@@ -27,9 +27,10 @@ FATES = {
     "acked": "it was acknowledged",
     "overlimit": "it was dropped because the flow queues held `limit` frames",
     "codel": "CoDel dropped it",
-    "retries": "it was never acknowledged, and was sent `attempts` times or given up by the device",
+    "retries": "it was never acknowledged, and was sent `attempts` times or given up",
     "left": "it was dropped when its station left",
     "flushed": "it was dropped because its TID was flushed",
+    "ended": "it was dropped because the agreement of its TID ended",
 }
 
 
@@ -95,6 +96,11 @@ def station_of(call: Call) -> str:
     return f"station {call.number('station')}"
 
 
+def tid_of(call: Call) -> str:
+    """Returns the name of a call's TID."""
+    return f"{station_of(call)}, TID {call.number('tid')}"
+
+
 def transmission_of(call: Call) -> str:
     """Returns the name of a call's transmission."""
     return f"Transmission {call.number('index')} of exchange {call.number('exchange')}"
@@ -137,6 +143,10 @@ ASKED: dict[str, Callable[[Call], str]] = {
         f"{station_of(call).capitalize()} joins with the exponent {call.number('exponent')} and the weight "
         f"{call.number('weight')}; its device numbers, aggregates and repeats its frames."
     ),
+    "plain": lambda call: (
+        f"{station_of(call).capitalize()} joins with the first number {call.number('start')}, the exponent "
+        f"{call.number('exponent')} and the weight {call.number('weight')}; no TID has an agreement."
+    ),
     "weight": lambda call: f"{station_of(call).capitalize()} is to have the weight {call.number('weight')}.",
     "leave": lambda call: f"{station_of(call).capitalize()} leaves.",
     "rate": lambda call: f"{station_of(call).capitalize()} is to be sent to at this rate: {rate_of(call)}.",
@@ -167,8 +177,14 @@ ASKED: dict[str, Callable[[Call], str]] = {
     "unsent": lambda call: f"{transmission_of(call)} never went on the air.",
     "giveup": lambda call: f"The device will not try {transmission_of(call).lower()} again.",
     "flush": lambda call: (
-        f"The frames of {station_of(call)}, TID {call.number('tid')}, that are not on the air are to be dropped."
+        f"The frames of {tid_of(call)}, that are not on the air are to be dropped."
     ),
+    "hold": lambda call: f"No frame of {tid_of(call)}, is to get a number from now on.",
+    "begin": lambda call: (
+        f"An agreement of {tid_of(call)}, begins with a window of {call.number('window')}."
+    ),
+    "free": lambda call: f"The frames of {tid_of(call)}, are to go one at a time from now on.",
+    "cease": lambda call: f"The agreement of {tid_of(call)}, ends.",
 }
 
 
@@ -193,6 +209,8 @@ def refused(call: Call, reply: Reply, book: Ledger) -> str:
     rule = rules.rule(reply.refusal, number, book.settings)
     if reply.refusal == "nothing":
         rule = NOTHING.get(call.kind, rule)
+    if reply.refusal == "open" and call.kind in ("begin", "cease"):
+        rule = f"The TID has {count(reply.number('count'), 'open exchange')}."
     return f"Refused: {rule} Nothing has changed."
 
 
@@ -215,7 +233,13 @@ def why_not_ready(station: Station, class_: str, book: Ledger) -> str:
         return f"{text}, but is stopped."
     if station.is_asleep and station.credit != class_:
         return f"{text}, but sleeps and has no credit for it."
-    return f"{text}, {on_air} of them in open exchanges."
+    return f"{text}, {on_air} of them in open exchanges.{held_tids(station, class_)}"
+
+
+def held_tids(station: Station, class_: str) -> str:
+    """Returns a sentence about each TID of a station and class that is held."""
+    tids = sorted(tid for tid in station.held if CLASSES[tid] == class_)
+    return "".join(f" TID {tid} is held, so no frame of it gets a number." for tid in tids)
 
 
 def said_of_accepted(_: Call, reply: Reply, book: Ledger, __: Exchange | None) -> str:
@@ -256,6 +280,8 @@ def contents(exchange: Exchange, book: Ledger) -> str:
         )
     kind = "a batch, which the device numbers," if exchange.is_batch else "an aggregate"
     text = f"It is {kind} of {count(exchange.sent, 'frame')}"
+    if exchange.is_plain:
+        text = "It is one frame without an agreement"
     frames = [book.frames[id_] for id_, _ in exchange.frames]
     again = [f"{frame.id} (transmission {frame.sent})" for frame in frames if frame.sent > 1]
     text += f"; sent again: frame {listed(again)}." if again else ", not sent before."
@@ -293,14 +319,15 @@ def other(station: Station, class_: str, book: Ledger) -> str:
         return f"Station {station.number} is stopped, so it was not ready."
     if station.is_asleep and station.credit != class_:
         return f"Station {station.number} sleeps and has no credit, so it was not ready."
+    tids = held_tids(station, class_)
     if book.settings["pending"]:
         return (
             f"Station {station.number} also holds {count(held, 'frame')} of the class, "
             f"{station.used.get(class_, 0)} us were charged to it, and "
-            f"{book.in_flight(station.number, class_)} us are in flight."
+            f"{book.in_flight(station.number, class_)} us are in flight.{tids}"
         )
     if station.is_weighed:
-        return f"Station {station.number} also holds {count(held, 'frame')} of the class."
+        return f"Station {station.number} also holds {count(held, 'frame')} of the class.{tids}"
     left = book.quantum(station) - station.used.get(class_, 0)
     due = book.deficit_when_picked(station, class_)
     return (
@@ -309,6 +336,7 @@ def other(station: Station, class_: str, book: Ledger) -> str:
         f"to it" + (
             f"; it can be picked with a deficit of {due} us." if left <= 0 else f": its deficit is {left} us."
         )
+        + tids
     )
 
 
@@ -323,6 +351,8 @@ def said_of_done(_: Call, reply: Reply, book: Ledger, exchange: Exchange | None)
     text = f"{count(acked, 'frame')} acknowledged, {waiting} to be sent again, {failed} failed. {charge}"
     if failed and exchange.is_batch:
         text += " A frame of a batch fails if it was not acknowledged, since the device has repeated it."
+    elif failed and is_far(exchange, book):
+        text += " Its number is 2,048 or more above the last acknowledged one of the TID, so it is sent once."
     elif failed:
         text += f" A frame fails after attempts ({book.settings['attempts']}) transmissions"
         text += ", or if the device gives it up." if exchange.given_up else "."
@@ -339,6 +369,13 @@ def said_of_done(_: Call, reply: Reply, book: Ledger, exchange: Exchange | None)
     return text
 
 
+def is_far(exchange: Exchange, book: Ledger) -> bool:
+    """Returns whether the frame of an exchange without an agreement failed before its last attempt."""
+    if not exchange.is_plain or exchange.given_up:
+        return False
+    return all(book.frames[id_].sent < book.settings["attempts"] for id_, _ in exchange.frames)
+
+
 def said_of_unsent(_: Call, __: Reply, ___: Ledger, exchange: Exchange | None) -> str:
     """Says what follows from a transmission that never went on the air."""
     assert exchange is not None
@@ -352,30 +389,48 @@ def said_of_giveup(_: Call, __: Reply, ___: Ledger, exchange: Exchange | None) -
     assert exchange is not None
     if exchange.start is not None:
         return "It is marked; the request may be sent again nevertheless."
-    return "It is marked: its frame fails when the exchange ends, unless the BlockAck shows it."
+    shown = "an Ack is heard" if exchange.is_plain else "the BlockAck shows it"
+    return f"It is marked: its frame fails when the exchange ends, unless {shown}."
+
+
+def passed_up(reply: Reply) -> str:
+    """Returns a sentence about the frames that a receiver passes up, if there are any."""
+    ids = reply.fields["passed_up"]["ids"]
+    return f"The receiver passes up {'frame' if len(ids) == 1 else 'frames'} {listed(map(str, ids))}." if ids else ""
 
 
 def said_of_released(_: Call, reply: Reply, __: Ledger, exchange: Exchange | None) -> str:
     """Says what a receiver passes up."""
-    ids = reply.fields["passed_up"]["ids"]
-    if ids:
-        return f"The receiver passes up {'frame' if len(ids) == 1 else 'frames'} {listed(map(str, ids))}."
+    passed = passed_up(reply)
+    if passed:
+        return passed
     assert exchange is not None
     if exchange.is_batch:
         return "The device says that it was acknowledged; what the receiver passes up is not known."
     if exchange.start is not None:
         return "The receiver moves on to the request's start, and has nothing to pass up."
+    if exchange.is_plain:
+        return "The receiver passes nothing up: it has this frame already."
     return "The receiver passes nothing up: it has this number already, or an earlier number is missing."
 
 
 def said_of_ba(_: Call, __: Reply, ___: Ledger, exchange: Exchange | None) -> str:
-    """Says what a BlockAck shows."""
-    assert exchange is not None and exchange.block is not None
+    """Says what a BlockAck shows, or an Ack acknowledges."""
+    assert exchange is not None
+    if exchange.block is None:
+        return "The Ack acknowledges the frame."
     shown = [number for _, number in exchange.frames if exchange.shows(number)]
     text = f"The BlockAck starts at {exchange.block[0]}"
     if not exchange.frames:
         return f"{text}."
     return f"{text}, and shows {len(shown)} of {exchange.sent} numbers of the exchange."
+
+
+def said_of_ceased(_: Call, reply: Reply, __: Ledger, ___: Exchange | None) -> str:
+    """Says what follows from the end of an agreement."""
+    dropped = f"Frames that waited and that are dropped: {reply.number('count')}."
+    held = "The TID is held: no frame of it gets a number."
+    return " ".join(filter(None, [dropped, passed_up(reply), held]))
 
 
 def said_of_charged(call: Call, reply: Reply, _: Ledger, __: Exchange | None) -> str:
@@ -396,6 +451,9 @@ ANSWERED: dict[str, Callable[[Call, Reply, Ledger, Exchange | None], str]] = {
         f"It is live; its deficit of each class is {book.quantum(book.stations[call.number('station')])} us."
     ),
     "offload": lambda call, _, book, __: (
+        f"It is live; its deficit of each class is {book.quantum(book.stations[call.number('station')])} us."
+    ),
+    "plain": lambda call, _, book, __: (
         f"It is live; its deficit of each class is {book.quantum(book.stations[call.number('station')])} us."
     ),
     "weight": lambda *_: "The weight is set; each of its deficits is at most what its new quantum allows.",
@@ -420,6 +478,10 @@ ANSWERED: dict[str, Callable[[Call, Reply, Ledger, Exchange | None], str]] = {
     "unsent": said_of_unsent,
     "giveup": said_of_giveup,
     "flush": lambda _, reply, __, ___: f"Frames that it held and that are dropped: {reply.number('count')}.",
+    "hold": lambda _, reply, __, ___: f"It is held. An agreement may begin with the number {reply.number('start')}.",
+    "begin": lambda *_: "It has begun: the frames of the TID go in aggregates.",
+    "free": lambda *_: "It is free: each frame waits for the Ack of the one before it.",
+    "cease": said_of_ceased,
 }
 
 
@@ -454,4 +516,5 @@ SUMMED = {
     "retries": "dropped after their last transmission",
     "left": "dropped when their station left",
     "flushed": "dropped because their TID was flushed",
+    "ended": "dropped because the agreement of their TID ended",
 }

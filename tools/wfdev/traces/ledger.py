@@ -1,7 +1,8 @@
 """The facts about stations, frames and exchanges that follow from the calls and answers of a trace.
 
-Two things are not in the answers, and so not here: which frames CoDel dropped before they are reaped, and the
-order of the rotation. """
+Three things are not in the answers, and so not here: which frames CoDel dropped before they are reaped; whether
+the end of an agreement dropped a frame with a number that was never sent, before it is reaped; and the order of
+the rotation. """
 from __future__ import annotations
 
 import collections
@@ -29,22 +30,23 @@ NUMBERS = 4096
 
 @dataclasses.dataclass
 class Frame:
-    """An accepted frame: `sent` counts its transmissions, `is_given_up` says whether the device will not try
-    it again, and `fate` is empty while it is held."""
+    """An accepted frame: `sent` counts its transmissions, `is_numbered` says whether a pull sent it,
+    `is_given_up` whether the device will not try it again, and `fate` is empty while it is held."""
 
     id: int
     station: int
     tid: int
     length: int
     sent: int = 0
+    is_numbered: bool = False
     is_given_up: bool = False
     fate: str = ""
 
 
 @dataclasses.dataclass
 class Exchange:
-    """An exchange: what the pull answered, what arrived, the BlockAck, which transmissions never went on the
-    air or were given up, and how it ended."""
+    """An exchange: what the pull answered, what arrived, the BlockAck or the Ack, which transmissions never
+    went on the air or were given up, and how it ended."""
 
     number: int
     station: int
@@ -61,6 +63,8 @@ class Exchange:
     given_up: set[int] = dataclasses.field(default_factory=set)
     heard: bool | None = None
     is_batch: bool = False
+    is_plain: bool = False
+    has_ack: bool = False
 
     @property
     def class_(self) -> str:
@@ -78,9 +82,9 @@ class Exchange:
         return self.sent - len(self.unsent) - len(self.arrived)
 
     def shows(self, number: int) -> bool:
-        """Returns whether the BlockAck shows this sequence number."""
+        """Returns whether the BlockAck shows this sequence number, or the Ack acknowledges it."""
         if self.block is None:
-            return False
+            return self.has_ack
         start, bits = self.block
         return bool(bits >> ((number - start) % NUMBERS) & 1)
 
@@ -88,7 +92,8 @@ class Exchange:
 @dataclasses.dataclass
 class Station:
     """A live station: `used` is the airtime of each class that left its deficit since its join; `quanta`
-    counts those of the rotation. After a change of its weight (`is_weighed`) its deficit is not known."""
+    counts those of the rotation. After a change of its weight (`is_weighed`) its deficit is not known. `held`
+    has the TIDs that are held."""
 
     number: int
     weight: int
@@ -98,6 +103,7 @@ class Station:
     credit: str = ""
     used: dict[str, int] = dataclasses.field(default_factory=dict)
     quanta: dict[str, int] = dataclasses.field(default_factory=dict)
+    held: set[int] = dataclasses.field(default_factory=set)
 
 
 class Ledger:
@@ -165,6 +171,25 @@ class Ledger:
     def _offload(self, call: Call, reply: Reply) -> None:
         self._join(call, reply)
 
+    def _plain(self, call: Call, reply: Reply) -> None:
+        self._join(call, reply)
+
+    def _hold(self, call: Call, _: Reply) -> None:
+        self.stations[call.number("station")].held.add(call.number("tid"))
+
+    def _begin(self, call: Call, _: Reply) -> None:
+        self.stations[call.number("station")].held.remove(call.number("tid"))
+
+    def _free(self, call: Call, reply: Reply) -> None:
+        self._begin(call, reply)
+
+    def _cease(self, call: Call, reply: Reply) -> None:
+        number, tid = call.number("station"), call.number("tid")
+        for frame in self.frames.values():
+            if (frame.station, frame.tid) == (number, tid) and frame.is_numbered and not frame.fate:
+                self._finish(frame, "ended")
+        self._hold(call, reply)
+
     def _weight(self, call: Call, _: Reply) -> None:
         station = self.stations[call.number("station")]
         station.weight, station.is_weighed = call.number("weight"), True
@@ -200,10 +225,11 @@ class Ledger:
             reply.number("exchange"), reply.number("station"), reply.number("tid"), reply.number("air")
         )
         exchange = Exchange(*numbers, self.now, reply.frames, start, bool(reply.fields["more"]))
-        exchange.is_batch = "batch" in reply.fields
+        exchange.is_batch, exchange.is_plain = "batch" in reply.fields, "plain" in reply.fields
         for id_, _number in exchange.frames:
-            exchange.again += self.frames[id_].sent > 0
-            self.frames[id_].sent += 1
+            frame = self.frames[id_]
+            exchange.again += frame.sent > 0
+            frame.sent, frame.is_numbered = frame.sent + 1, True
         self.open[exchange.number] = exchange
         station = self.stations[exchange.station]
         station.quanta[exchange.class_] = self.quanta_when_picked(station, exchange.class_)
@@ -217,8 +243,12 @@ class Ledger:
         return exchange
 
     def _answer(self, call: Call, reply: Reply) -> Exchange:
-        exchange, block = self.open[call.number("exchange")], reply.fields["block"]
-        exchange.block = block["start"], int("".join(block["bits"][::-1]), 16)
+        exchange = self.open[call.number("exchange")]
+        if exchange.is_plain:
+            exchange.has_ack = True
+        else:
+            block = reply.fields["block"]
+            exchange.block = block["start"], int("".join(block["bits"][::-1]), 16)
         return exchange
 
     def _unsent(self, call: Call, _: Reply) -> Exchange:
@@ -231,7 +261,7 @@ class Ledger:
         exchange.given_up.add(call.number("index"))
         return exchange
 
-    def _done(self, call: Call, _: Reply) -> Exchange:
+    def _done(self, call: Call, reply: Reply) -> Exchange:
         exchange = self.open.pop(call.number("exchange"))
         exchange.heard = bool(call.fields["heard"])
         exchange.air = call.number("air") or exchange.air
@@ -241,7 +271,8 @@ class Ledger:
             if index in exchange.unsent:
                 frame.sent -= 1
                 continue
-            frame.is_given_up = exchange.is_batch or index in exchange.given_up
+            has_failed = exchange.is_plain and reply.number("failed") > 0
+            frame.is_given_up = exchange.is_batch or has_failed or index in exchange.given_up
             is_shown = exchange.heard and exchange.shows(number)
             self._settle(frame, index in exchange.arrived if exchange.is_batch else is_shown)
         return exchange

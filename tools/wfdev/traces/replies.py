@@ -11,11 +11,11 @@ from collections.abc import Callable
 from typing import Any
 
 Fields = dict[str, Any]
-COUNTED = ("open", "room", "sleeping", "full")
+COUNTED = ("open", "room", "sleeping", "full", "waits")
 MEASURED = {"debt": "deficit", "ahead": "air"}
 DIGITS = 16
 WIDE_DIGITS = 64
-TALLY = ("acked", "overlimit", "codel", "retries", "left", "flushed")
+TALLY = ("acked", "overlimit", "codel", "retries", "left", "flushed", "ended")
 
 
 @dataclasses.dataclass(frozen=True)
@@ -57,8 +57,8 @@ def _send(words: list[str]) -> Fields:
     sent = words[8:-1] if more else words[8:]
     pairs = [[word, "0"] if words[7] == "batch" else word.split(":") for word in sent]
     ids, numbers = [int(one) for one, _ in pairs], [int(other) for _, other in pairs]
-    batch = {"batch": True} if words[7] == "batch" else {}
-    return {**fields, **batch, "more": more, "frames": {"ids": ids, "numbers": numbers, "count": len(ids)}}
+    how = {words[7]: True} if words[7] in ("batch", "plain") else {}
+    return {**fields, **how, "more": more, "frames": {"ids": ids, "numbers": numbers, "count": len(ids)}}
 
 
 def _released(words: list[str]) -> Fields:
@@ -81,6 +81,8 @@ def _refused(words: list[str]) -> Fields:
 READERS: dict[str, Callable[[list[str]], Fields]] = {
     "left": lambda words: {"count": int(words[0])},
     "flushed": lambda words: {"count": int(words[0])},
+    "held": lambda words: {"start": int(words[0])},
+    "ceased": lambda words: {"count": int(words[0]), **_released(words[1:])},
     "now": lambda words: {"now": int(words[0])},
     "accepted": _accepted,
     "send": _send,

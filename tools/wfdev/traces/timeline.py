@@ -85,7 +85,7 @@ class Timeline:
 
     def _call(self, call: calls.Call, reply: replies.Reply) -> None:
         exchange = self._book.take(call, reply)
-        if call.kind in ("join", "offload") and not reply.refusal:
+        if call.kind in ("join", "offload", "plain") and not reply.refusal:
             self._stations.add(call.number("station"))
         if exchange and call.kind == "pull":
             self.bars.append(Bar(exchange, exchange.began))

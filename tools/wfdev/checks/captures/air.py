@@ -3,11 +3,12 @@ import random
 from collections.abc import Iterator, Sequence
 from dataclasses import dataclass, field
 
-from wfdev.checks.captures.model import BLOCK_ACK_KIND, DATA_KIND, REQUEST_KIND, Packet
+from wfdev.checks.captures.model import ACK_KIND, BLOCK_ACK_KIND, DATA_KIND, REQUEST_KIND, Packet
 from wfdev.model import text
 
 BASE, SOURCE = bytes.fromhex("020000000000"), bytes.fromhex("020000020000")
 MICROSECONDS = 10**6
+DURATION, PLAIN_DURATION = 48, 44  # of the SIFS, and a BlockAck or an Ack
 
 
 def station(number: int) -> bytes:
@@ -23,16 +24,27 @@ class Frame:
     length: int
 
 
-def data(number: int, tid: int, seq: int, is_retry: bool, has_more: bool, frame: Frame) -> bytes:
+@dataclass(frozen=True)
+class Sent:
+    """How a frame is sent: its TID and number, the Retry and More Data bits, and the Duration."""
+
+    tid: int
+    seq: int
+    is_retry: bool
+    has_more: bool
+    duration: int
+
+
+def data(number: int, sent: Sent, frame: Frame) -> bytes:
     """Returns the octets of a data frame to a station."""
-    head = bytes([DATA_KIND, 2 | 8 * is_retry | 32 * has_more, 48, 0]) + station(number) + BASE + SOURCE
-    head += (16 * seq).to_bytes(2, "little") + bytes([tid, 0])
+    head = bytes([DATA_KIND, 2 | 8 * sent.is_retry | 32 * sent.has_more, sent.duration, 0]) + station(number) + BASE + SOURCE
+    head += (16 * sent.seq).to_bytes(2, "little") + bytes([sent.tid, 0])
     return head + bytes((frame.flow + at) % 256 for at in range(frame.length))
 
 
 def request(number: int, tid: int, start: int) -> bytes:
     """Returns the octets of a BlockAckReq to a station."""
-    return bytes([REQUEST_KIND, 0, 48, 0]) + station(number) + BASE + bytes([4, 16 * tid]) + (16 * start).to_bytes(2, "little")
+    return bytes([REQUEST_KIND, 0, DURATION, 0]) + station(number) + BASE + bytes([4, 16 * tid]) + (16 * start).to_bytes(2, "little")
 
 
 def block_ack(number: int, tid: int, start: int, digits: str) -> bytes:
@@ -41,6 +53,11 @@ def block_ack(number: int, tid: int, start: int, digits: str) -> bytes:
     head = bytes([BLOCK_ACK_KIND, 0, 0, 0]) + BASE + station(number) + bytes([4, 16 * tid])
     fragment = 4 if len(bits) > 8 else 0
     return head + (16 * start + fragment).to_bytes(2, "little") + bits
+
+
+def ack() -> bytes:
+    """Returns the octets of an Ack of a station."""
+    return bytes([ACK_KIND, 0, 0, 0]) + BASE
 
 
 def calls_of(trace: str) -> list[list[str]]:
@@ -87,7 +104,9 @@ class Air:
         numbers = self.batches[int(answer[1])] if answer[8] == "batch" else [int(one.split(":")[1]) for one in sent]
         for word, seq in zip(sent, numbers, strict=True):
             frame = word.split(":")[0]
-            self.put(data(number, tid, seq % 4096, frame in self.tried, has_more, self.frames[frame]))
+            duration = PLAIN_DURATION if answer[8] == "plain" else DURATION
+            how = Sent(tid, seq % 4096, frame in self.tried, has_more, duration)
+            self.put(data(number, how, self.frames[frame]))
             opened.frames.append(frame)
 
     def take(self, call: Sequence[str], answer: Sequence[str]) -> None:
@@ -101,6 +120,8 @@ class Air:
         elif answer[0] == "ba":
             opened = self.opened[call[1]]
             self.put(block_ack(opened.station, opened.tid, int(answer[1]), answer[2]))
+        elif answer[0] == "ack":
+            self.put(ack())
         elif answer[0] == "marked" and call[0] == "unsent":
             self.opened[call[1]].unsent.add(int(call[2]))
         elif answer[0] == "done":
@@ -117,12 +138,21 @@ def on_air(trace: str, answers: str) -> list[Packet]:
     return air.packets
 
 
+def agreement(draw: random.Random) -> str:
+    """Returns a call by which an agreement of TID 0 begins or ends."""
+    station = draw.randint(0, 2)
+    window = draw.choice((1, 2, 64, 65, 256))
+    return draw.choice((f"hold {station} 0", f"begin {station} 0 {window}", f"free {station} 0", f"cease {station} 0"))
+
+
 def exchanges(draw: random.Random, count: int) -> Iterator[str]:
     """Yields the calls of this many exchanges, which go out, arrive in part, are answered and end."""
     for exchange in range(count):
         for _ in range(draw.randint(exchange < 2, 4)):
             yield f"enq {draw.randint(0, 2)} {draw.choice((0, 0, 3, 5))} {draw.randint(0, 999)} {draw.randint(1, 90)}"
         yield draw.choice(("tick 7", "tick 999999", f"sleep {draw.randint(0, 2)}", f"wake {draw.randint(0, 2)}", "reap"))
+        if draw.random() < 0.3:
+            yield agreement(draw)
         yield draw.choice(("pull be", "pull be", "pull vi"))
         for number in range(max(0, exchange - 1), exchange + 1):
             yield from [f"arrive {number} {index}" for index in range(4) if draw.random() < 0.6]
@@ -135,6 +165,8 @@ def made_trace(seed: int) -> str:
     draw = random.Random(seed)
     lines = [f"cell attempts={draw.randint(1, 3)} agg={draw.choice((1, 4, 64))}"]
     for number in range(draw.randint(1, 3)):
-        lines.append(f"join {number} {draw.choice((1, 2, 8, 64, 65, 256))} {draw.randint(0, 4095)} 3")
+        start = draw.randint(0, 4095)
+        is_plain = draw.random() < 0.3
+        lines.append(f"plain {number} {start} 3" if is_plain else f"join {number} {draw.choice((1, 2, 8, 64, 65, 256))} {start} 3")
     lines += exchanges(draw, draw.randint(1, 5))
     return "\n".join([*lines, draw.choice(("end", "end", "stop"))]) + "\n"

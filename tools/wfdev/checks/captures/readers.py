@@ -8,14 +8,14 @@ from dataclasses import dataclass
 from pathlib import Path
 
 from wfdev.checks.captures.air import MICROSECONDS
-from wfdev.checks.captures.model import ACK, BLOCK_ACK_KIND, DATA_KIND, REQUEST, REQUEST_KIND, Packet, name_of
+from wfdev.checks.captures.model import ACK, ACK_KIND, BLOCK_ACK_KIND, DATA_KIND, REQUEST, REQUEST_KIND, Packet, name_of
 from wfdev.harness.script import Difference, expect
 
 # The time and the fields of every frame, of data frames, of block frames and of BlockAcks, and tshark's complaints.
 HEAD_FIELDS = "frame.time_epoch wlan.fc.type_subtype wlan.fc.retry wlan.fc.moredata _ws.malformed _ws.expert.severity"
 FIELDS = (HEAD_FIELDS + " wlan.qos.tid wlan.seq wlan.ba.basic.tidinfo wlan.fixed.ssc.sequence wlan.fixed.ssc.fragment wlan.ba.bm").split()
 ERROR = 0x800000
-KINDS = {DATA_KIND: 0x28, REQUEST_KIND: 0x18, BLOCK_ACK_KIND: 0x19}
+KINDS = {DATA_KIND: 0x28, REQUEST_KIND: 0x18, BLOCK_ACK_KIND: 0x19, ACK_KIND: 0x1D}
 WORDS = {"": None, "True": 1, "False": 0}
 
 
@@ -39,6 +39,14 @@ def number_in(text: str) -> int | None:
     return WORDS[text] if text in WORDS else int(text, 0)
 
 
+def numbers_of(octets: bytes) -> list[int | None]:
+    """Returns the numbers that tshark lists of a frame: those of data, and those of a block frame. An Ack has none."""
+    if octets[0] == ACK_KIND:
+        return [None] * 5
+    listed = [int(word) for word in name_of(octets).split() if word.isdigit()]
+    return [*listed, None, None, None] if octets[0] == DATA_KIND else [None, None, *listed, octets[18] & 15]
+
+
 def expect_line(where: str, line: str, packet: Packet) -> None:
     """Compares a line of tshark with its packet."""
     octets = packet.octets
@@ -49,9 +57,7 @@ def expect_line(where: str, line: str, packet: Packet) -> None:
         raise Difference(f"{where}: tshark reports an error: {line}")
     expect(f"{where}, bits Retry and More Data", (retry, more), (octets[1] >> 3 & 1, octets[1] >> 5 & 1))
     expect(f"{where}, kind", kind, KINDS[octets[0]])
-    listed = [int(word) for word in name_of(octets).split() if word.isdigit()]
-    wanted = [*listed, None, None, None] if octets[0] == DATA_KIND else [None, None, *listed, octets[18] & 15]
-    expect(f"{where}, numbers", numbers, wanted)
+    expect(f"{where}, numbers", numbers, numbers_of(octets))
     if octets[0] == BLOCK_ACK_KIND:
         expect(f"{where}, bitmap", bytes.fromhex(bitmap.replace(":", "")), octets[20:])
 

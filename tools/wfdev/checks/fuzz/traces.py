@@ -6,12 +6,13 @@ from dataclasses import dataclass, field
 
 from wfdev.model.calls import FORMS
 from wfdev.model.codel import SLOW, USUAL
-from wfdev.model.frames import CLASS_OF, Class
+from wfdev.model.frames import CLASS_OF, NUMBERS, Class
 from wfdev.model.grammar import LONGEST_LINE, Argument, NumberIn, OneOf
 from wfdev.model.machine import MOST_AIR, MOST_TICK, Machine
 from wfdev.model.rates import CARRIERS, MOST_MCS, SYMBOL, Format
 from wfdev.model.settings import RANGES
-from wfdev.model.stations import Exchange
+from wfdev.model.session import FAR
+from wfdev.model.stations import Exchange, Mode
 from wfdev.model.text import Player
 
 GUARDS = {800: "long", 400: "short"}
@@ -38,6 +39,9 @@ LIKELY = {
 # How often a setting is in a head, if not three times in ten. With little room most calls do nothing.
 CHANCE = {"stations": 0.6, "room": 0.06, "limit": 0.25, "calls": 0.0, "pending": 0.6}
 WAITING = {"stations": 0.6, "room": 0.0, "limit": 0.0, "calls": 0.0, "agg": 0.8, "pending": 0.6}
+# Settings with which numbers go far in few calls.
+FAR_OFF = {**dict.fromkeys(RANGES, 0.0), "stations": 0.6, "attempts": 0.9, "overhead": 0.3, "answers": 0.3, "pending": 0.3}
+ROUND = 32  # numbers of an aggregate with the standard settings
 WINDOWS = (1, 2, 3, 8, 63, 64, 65, 100, 255, 256)
 BAD_WINDOWS = (0, 257, 65_535)
 STARTS = (0, 1, 100, 4000, 4090, 4094, 4095)
@@ -50,7 +54,7 @@ FRAMES = (1, 1, 2, 3, 8, 64, 65_535)
 LIMITS = (1, 40, 100, 300, 1000, 3000, 3001, 2**32 - 1)
 KINDS = (
     "join leave rate ampdu weight tick burst pull arrive answer done unsent giveup flush play back sleep wake poll stop start "
-    "rx reap wild"
+    "rx reap agree hold begin free cease far wild"
 ).split()
 
 
@@ -102,18 +106,20 @@ class Maker:
     """Makes a trace. It plays the trace on the model, so that it knows which calls are of use."""
 
     draw: random.Random
+    goes_far: bool = False  # whether numbers go far above the last acknowledged one, which takes some thousand calls
     player: Player = field(default_factory=Player)
     lines: list[str] = field(default_factory=list)
     weights: list[float] = field(init=False)
 
     def __post_init__(self) -> None:
         draw = self.draw
-        does_wait = draw.random() < 0.35
-        self.write(head(draw, WAITING if does_wait else CHANCE))
+        does_wait = not self.goes_far and draw.random() < 0.35
+        self.write(head(draw, FAR_OFF if self.goes_far else WAITING if does_wait else CHANCE))
         self.weights = [draw.choice((0.05, 0.3, 1, 1, 3)) for _ in KINDS]
         self.set_weights(join=0.1, leave=0.05, rate=0.2, sleep=0.15, wake=0.3, poll=0.4)
         self.set_weights(play=3.0, answer=0.4, rx=0.1, reap=0.3, wild=0.05, ampdu=0.1, stop=0.1, start=0.3)
         self.set_weights(unsent=0.2, giveup=0.2, flush=0.15, weight=0.3, back=2.0)
+        self.set_weights(agree=draw.choice((0.0, 0.3, 3.0)), hold=0.05, begin=0.05, free=0.05, cease=0.05, far=0.0)
         count = self.machine.settings.stations
         drawn = [draw.randrange(count) for _ in range(draw.choice((1, 2, 3, 6)))]
         self.stations = sorted({*drawn, count - 1})
@@ -126,15 +132,24 @@ class Maker:
         self.exponent = draw.choice((None, 3))
         self.marks = draw.choice((0.0, 0.05, 0.2, 0.5))
         self.offloads = draw.choice((0.0, 0.3, 1.0))
+        self.plains = draw.choice((0.0, 0.5, 1.0))
         self.bursts: Sequence[int] = (1, 1, 2, 5, 20)
         self.most_queued = 10_000
         if does_wait:
             self.wait_long()
+        if self.goes_far:
+            self.go_far()
+
+    def go_far(self) -> None:
+        """Has numbers of few stations fail until they are far above the last acknowledged one."""
+        self.offloads, self.plains, self.windows, self.lengths = 0.0, 0.2, (256,), (1,)
+        self.weights[KINDS.index("far")] = 1.0
+        self.set_weights(burst=5, play=10, agree=2)
 
     def wait_long(self) -> None:
         """Has frames of few flows wait so long that CoDel drops some."""
         self.weights = [0.05] * len(KINDS)
-        self.set_weights(tick=40, burst=20, play=60, leave=4, sleep=0.1, wild=0.2)
+        self.set_weights(tick=40, burst=20, play=60, leave=4, sleep=0.1, wild=0.2, far=0.0)
         self.stations = self.stations[: self.draw.randint(1, 2)]
         self.bursts, self.most_queued = (1, 2, 5, 20), self.draw.choice((4, 10, 40))
         self.flows, self.tids = self.draw.choice((1, 2)), self.draw.choice(([0], [0, 3]))
@@ -186,13 +201,84 @@ class Maker:
         """Yields a join, mostly of a station that is not live."""
         out = [one for one in self.stations if one not in self.machine.stations]
         station = self.draw.choice(out if out and self.draw.random() < 0.95 else self.stations)
-        window = self.draw.choice(self.windows if self.draw.random() < 0.97 else BAD_WINDOWS)
         exponent = self.draw.randint(0, 3) if self.exponent is None else self.exponent
         weight = self.draw.choice(("", "", " 1", " 2", " 3", " 16"))
         if self.draw.random() < self.offloads:
             yield f"offload {station} {exponent}{weight}"
             return
-        yield f"join {station} {window} {self.draw.choice(STARTS)} {exponent}{weight}"
+        if self.draw.random() < self.plains:
+            yield f"plain {station} {self.draw.choice(STARTS)} {exponent}{weight}"
+            return
+        yield f"join {station} {self.window()} {self.draw.choice(STARTS)} {exponent}{weight}"
+
+    def window(self) -> int:
+        """Returns a window, mostly a good one."""
+        return self.draw.choice(self.windows if self.draw.random() < 0.97 else BAD_WINDOWS)
+
+    def make_agree(self) -> Iterator[str]:
+        """Yields the next step of an agreement of a TID, often after the exchanges that are in its way are over."""
+        station, tid = self.station(), self.draw.choice(self.tids)
+        held = self.machine.stations.get(station)
+        if held is None or (held.offloaded and self.draw.random() < 0.9):
+            return
+        if held.modes[tid] is Mode.PLAIN:
+            yield f"hold {station} {tid}"
+        elif self.draw.random() < 0.8:
+            yield from self.over(station, tid)
+        if held.modes[tid] is Mode.AGREED:
+            yield f"cease {station} {tid}"
+        elif self.draw.random() < 0.8:
+            if held.sessions[tid].waiting() and self.draw.random() < 0.5:
+                yield f"flush {station} {tid}"
+            yield f"begin {station} {tid} {self.window()}"
+        else:
+            yield f"free {station} {tid}"
+
+    def over(self, station: int, tid: int) -> Iterator[str]:
+        """Yields the ends of the open exchanges of a TID."""
+        for number, one in list(self.machine.exchanges.items()):
+            if (one.station, one.tid) == (station, tid):
+                yield f"done {number} {'lost' if one.answer is None else 'heard'}"
+
+    def make_hold(self) -> Iterator[str]:
+        """Yields a hold."""
+        yield f"hold {self.station()} {self.draw.choice(self.tids)}"
+
+    def make_begin(self) -> Iterator[str]:
+        """Yields the begin of an agreement."""
+        yield f"begin {self.station()} {self.draw.choice(self.tids)} {self.window()}"
+
+    def make_free(self) -> Iterator[str]:
+        """Yields a free."""
+        yield f"free {self.station()} {self.draw.choice(self.tids)}"
+
+    def make_cease(self) -> Iterator[str]:
+        """Yields the end of an agreement."""
+        yield f"cease {self.station()} {self.draw.choice(self.tids)}"
+
+    def make_far(self) -> Iterator[str]:
+        """Yields calls after which the numbers of a TID are about 2,048 or 4,096 above the last acknowledged one."""
+        station, tid = self.station(), self.draw.choice(self.tids)
+        held = self.machine.stations.get(station)
+        if held is None or held.offloaded or held.modes[tid] is not Mode.AGREED:
+            return
+        session, least = held.sessions[tid], self.draw.choice((FAR, FAR, NUMBERS)) - self.draw.choice((1, 2, 3, 4))
+        for _ in range(NUMBERS // ROUND):
+            left = least - (session.next - session.acked)
+            if left <= 0:
+                break
+            yield from [f"enq {station} {tid} 0 1"] * min(left, ROUND)
+            yield f"pull {CLASS_OF[tid]} frames {min(left, ROUND)}"
+            for number in list(self.machine.exchanges):
+                yield f"done {number} lost"
+            yield from (f"cease {station} {tid}", f"begin {station} {tid} 256")
+        yield from (f"cease {station} {tid}", f"free {station} {tid}")
+        for _ in range(8):
+            yield from (f"enq {station} {tid} 0 1", f"pull {CLASS_OF[tid]}")
+            for number in list(self.machine.exchanges):
+                if self.draw.random() < 0.5:
+                    yield f"arrive {number} 0"
+                yield f"done {number} lost"
 
     def make_weight(self) -> Iterator[str]:
         """Yields a weight, often of a station with an open exchange."""
@@ -340,7 +426,9 @@ class Maker:
         """Returns the calls that meet the station of an exchange and its frames."""
         station, tid, weight = opened.station, opened.tid, self.draw.choice((1, 2, 3, 16))
         alone = [f"{kind} {station}" for kind in ("leave", "stop", "start", "sleep", "wake", "poll")]
-        return [*alone, f"flush {station} {tid}", f"weight {station} {weight}", f"pull {CLASS_OF[tid]}{self.limits()}"]
+        of_tid = [f"{kind} {station} {tid}" for kind in ("flush", "hold", "free", "cease")]
+        more = [f"begin {station} {tid} {self.window()}", f"weight {station} {weight}", f"pull {CLASS_OF[tid]}{self.limits()}"]
+        return [*alone, *of_tid, *more]
 
     def make_sleep(self) -> Iterator[str]:
         """Yields a sleep."""
@@ -394,8 +482,8 @@ class Maker:
 
 
 def made(draw: random.Random, size: int) -> bytes:
-    """Returns a trace of this many calls."""
-    maker = Maker(draw)
+    """Returns a trace of at least this many calls."""
+    maker = Maker(draw, goes_far=size >= FAR // 2 and draw.random() < 0.3)
     while maker.machine.calls < size:
         for line in maker.event():
             maker.write(f"@{draw.randint(0, 65_535)} {line}" if draw.random() < 0.02 else line)
