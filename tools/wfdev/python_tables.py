@@ -3,10 +3,11 @@ and `errors`, its codes."""
 import json
 import textwrap
 from collections.abc import Iterable, Iterator, Mapping, Sequence
-from dataclasses import dataclass
+from dataclasses import dataclass, replace
 
 from wfdev import header
 from wfdev.header import Enumerator, Function, Member, Struct
+from wfdev.table_rows import constant
 
 WIDTH = 110
 FIRST_BLOCK_CODE, SETTING_CODE = 50, 100
@@ -94,16 +95,28 @@ def enum_class(name: str, about: str, rows: Iterable[Enumerator], prefix: str = 
     yield '        return self.name.lower().replace("_", "-")'
 
 
-def error_class(row: Enumerator, refusals: Mapping[int, str]) -> Iterator[str]:
-    """Yields the lines of the class of an error. `refusals` gives for each refusal the field of a reply that has
-    its number, or an empty text if it has none."""
+@dataclass(frozen=True)
+class Named:
+    """A refusal: its word, and the field of a reply that has its number, or an empty text if it has none."""
+
+    word: str
+    field: str
+
+
+def named(row: Enumerator, refusals: Mapping[int, Named]) -> Enumerator:
+    """Returns the constant of an error with the name that its word has."""
+    return replace(row, name=constant(refusals[row.number].word)) if row.number in refusals else row
+
+
+def error_class(row: Enumerator, refusals: Mapping[int, Named]) -> Iterator[str]:
+    """Yields the lines of the class of an error."""
     base = "BlockError" if FIRST_BLOCK_CODE < row.number < SETTING_CODE else "WfError"
     yield from ("", "", f"class {camel(row.name)}({'Refused' if row.number in refusals else base}):")
     yield from doc(row.about)
     yield from ("", f"    code = {row.number}", f'    word = "{row.name.lower().replace("_", "-")}"')
     yield from string("about", row.about)
-    if refusals.get(row.number):
-        yield f'    field = "{refusals[row.number]}"'
+    if row.number in refusals and refusals[row.number].field:
+        yield f'    field = "{refusals[row.number].field}"'
 
 
 def error_table(rows: Iterable[Enumerator]) -> Iterator[str]:
@@ -211,9 +224,10 @@ def function_table(functions: Iterable[Function]) -> Iterator[str]:
     yield "}"
 
 
-def errors_module(wf_h: str, refusals: Mapping[int, str]) -> str:
+def errors_module(wf_h: str, refusals: Mapping[int, Named]) -> str:
     """Returns the text of the module `errors` for this header."""
-    codes = [row for row in header.enum(wf_h, "wf_code") if row.number and row.number != SETTING_CODE]
+    rows = [row for row in header.enum(wf_h, "wf_code") if row.number and row.number != SETTING_CODE]
+    codes = [named(row, refusals) for row in rows]
     lines = ERRORS_HEAD.splitlines()
     for row in codes:
         lines += error_class(row, refusals)

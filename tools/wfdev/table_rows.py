@@ -71,10 +71,13 @@ class Count:
 
 @dataclass(frozen=True)
 class Refusal:
-    """A refusal: its number, its word, its sentence, what the header adds to it, and the number after its word, if it has one."""
+    """A refusal: its number, its word and its constant in C, its sentence, what the header adds to it, and the number after its
+    word, if it has one.
+    """
 
     number: int
     word: str
+    constant: str
     about: str
     in_c: str
     count: Count | None
@@ -139,6 +142,11 @@ def note(sentence: str) -> str:
 # ---- the tables of settings and refusals
 
 
+def constant(word: str) -> str:
+    """A word as C spells it in a constant: no-station is NO_STATION."""
+    return word.replace("-", "_").upper()
+
+
 def cells(word: str, row: Any, keys: Mapping[str, type]) -> list[Any]:
     """The values of these keys of a row, each of its type."""
     missing = [key for key, kind in keys.items() if not isinstance(row, dict) or type(row.get(key)) is not kind]
@@ -179,14 +187,14 @@ def read_settings(path: Path) -> Iterator[Setting]:
 
 def read_refusals(path: Path) -> Iterator[Refusal]:
     """The rows of the refusals."""
-    for word, row in listed(path, {*REFUSAL_KEYS, "in_c", "counts"}):
+    for word, row in listed(path, {*REFUSAL_KEYS, "in_c", "counts", "constant"}):
         number, about = cells(word, row, REFUSAL_KEYS)
         if number > LAST_REFUSAL:
             raise Fault(f"{path.name}: the codes above {LAST_REFUSAL} belong to the library for C")
         count = Count(*cells(word, row["counts"], COUNT_KEYS)) if "counts" in row else None
         if count and (count.kind, count.reply) not in (("u32", "count"), ("u32", "air"), ("i64", "deficit")):
             raise Fault(f"{path.name}: the row {word} counts neither as u32 in count or air, nor as i64 in deficit")
-        yield Refusal(number, word, about, row.get("in_c", ""), count)
+        yield Refusal(number, word, row.get("constant", constant(word)), about, row.get("in_c", ""), count)
 
 
 # ---- the tables of calls and fates

@@ -16,7 +16,7 @@ from dataclasses import asdict
 from pathlib import Path
 
 from wfdev import python_tables, source_tables
-from wfdev.table_rows import PLACES, Call, Fault, Refusal, Tables, note, read, replaced
+from wfdev.table_rows import PLACES, Call, Fault, Refusal, Tables, constant, note, read, replaced
 
 TOP = Path(__file__).resolve().parent.parent.parent
 HEADER = Path("include/wf.h")
@@ -43,11 +43,6 @@ def commented(code: str, said: str, column: int) -> list[str]:
     return [*lines[:-1], lines[-1] + " */"]
 
 
-def constant(word: str) -> str:
-    """A word as C spells it in a constant: no-station is NO_STATION."""
-    return word.replace("-", "_").upper()
-
-
 def enumerators(prefix: str, listed: Sequence[tuple[str, int, str]], *, last: bool) -> list[str]:
     """The lines of an enum's constants: name, number and comment. With `last` the last one has no comma."""
     codes = [f"  {prefix}{name} = {at}," for name, at, _ in listed]
@@ -71,7 +66,7 @@ def call_notes(text: str) -> dict[str, str]:
 
 def header(text: str, tables: Tables) -> str:
     """The header."""
-    refusals = enumerators("WF_", [(constant(one.word), one.number, in_reply(one)) for one in tables.refusals], last=False)
+    refusals = enumerators("WF_", [(one.constant, one.number, in_reply(one)) for one in tables.refusals], last=False)
     text = replaced(text, "refusals", ["  /* refusals; `reply` then has kind WF_KIND_REFUSED */", *refusals])
     text = replaced(text, "fates", enumerators("WF_", [(constant(one.word), one.number, one.about) for one in tables.fates], last=True))
     said = call_notes(text)
@@ -155,7 +150,7 @@ def sim_file(tables: Tables) -> str:
 
 def python_files(wf_h: str, tables: Tables) -> dict[Path, str]:
     """The modules of python/wfpath that are made from this text of the header."""
-    refusals = {one.number: one.count.reply if one.count else "" for one in tables.refusals}
+    refusals = {one.number: python_tables.Named(one.word, one.count.reply if one.count else "") for one in tables.refusals}
     try:
         return {
             PYTHON: python_tables.tables_module(wf_h, setting_rows(tables)),

@@ -26,7 +26,7 @@ SHAPING = (HEAP, pathlib.Path(__file__), pathlib.Path(__file__).with_name("kerne
 LEVEL = "-O2"
 SHAPE = ["-mgeneral-regs-only", "-mcmodel=kernel", "-fno-pic"]
 # Calls of one path take less stack if the parts of a call are compiled into it.
-FLAGS = [*SHAPE, "-mllvm", "-inline-threshold=3000"]
+FLAGS = [*SHAPE, "-mllvm", "-inline-threshold=5000"]
 HEAP_FLAGS = [*SHAPE, "-mno-red-zone", "-ffreestanding", "-fno-stack-protector", "-O2"]
 HEAP_FLAGS += ["--target=x86_64-unknown-linux-gnu", "-Wall", "-Wextra", "-Werror"]
 FUNCTION_ATTRIBUTES = re.compile(r'^(attributes #\d+ = \{)(.*"target-cpu")', re.M)

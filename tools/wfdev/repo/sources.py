@@ -1,6 +1,6 @@
 """Reads the sources of crates as text: lines, imports, functions, and which lines are tests."""
 import re
-from collections.abc import Collection, Iterable, Iterator, Mapping
+from collections.abc import Collection, Iterable, Iterator, Mapping, Sequence
 from dataclasses import dataclass
 from functools import cached_property
 from pathlib import Path
@@ -127,13 +127,14 @@ class Source:
         return part in self.words or part in self.symbols or (part in self.content and len(part) > 1)
 
     def functions(self) -> Iterator[Function]:
-        """Yields the functions that have a body."""
+        """Yields the functions that have a body, with its lines except rows that tools/tables writes."""
         for place, line in enumerate(self.lines):
             begun = FUNCTION.match(line)
             if begun:
                 opened = self.opening(place, begun[1])
                 if opened is not None:
-                    yield Function(begun[2], place + 1, self.closing(opened + 1, begun[1]) - opened - 1)
+                    body = self.lines[opened + 1 : self.closing(opened + 1, begun[1])]
+                    yield Function(begun[2], place + 1, len(body) - written_rows(body))
 
     def opening(self, place: int, indent: str) -> int | None:
         """Returns the place of the line that opens the body of a function, or None if it has no body."""
@@ -146,6 +147,12 @@ class Source:
             if NO_BODY.match(line) or line.startswith(indent + "}"):
                 return None
         return None
+
+
+def written_rows(lines: Sequence[str]) -> int:
+    """Returns how many of the lines are rows of a table that tools/tables writes."""
+    marks = [place for place, line in enumerate(lines) if line.strip().startswith(("// begin rows", "// end rows"))]
+    return sum(last - first - 1 for first, last in zip(marks[::2], marks[1::2], strict=True))
 
 
 def traits(sources: Iterable[Source]) -> set[str]:

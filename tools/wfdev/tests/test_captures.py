@@ -2,7 +2,7 @@
 import unittest
 
 from wfdev.build import texts
-from wfdev.checks.captures import air, model
+from wfdev.checks.captures import air, model, readers
 
 
 class Listing(unittest.TestCase):
@@ -46,6 +46,15 @@ class Listing(unittest.TestCase):
         (packet,) = air.on_air(trace, answers)
         self.assertEqual((packet.seconds, packet.fraction, packet.octets[-2:]), (1, 1, b"\5\6"))
         self.assertEqual(model.name_of(packet.octets), "data tid 0 seq 7")
+
+    def test_a_frame_without_an_agreement_and_its_ack(self) -> None:
+        trace = "cell\nplain 0 7 3\nenq 0 0 5 2\npull be\narrive 0 0\nanswer 0\nend\n"
+        answers = "joined\naccepted 0\nsend 0 sta 0 tid 0 air 124 plain 0:7\nreleased 0\nack\n"
+        frame, ack = air.on_air(trace, answers)
+        self.assertEqual((frame.octets[2], ack.octets), (44, model.ACK))
+        self.assertEqual(readers.numbers_of(frame.octets), [0, 7, None, None, None])
+        self.assertEqual(readers.numbers_of(ack.octets), [None] * 5)
+        self.assertEqual(readers.numbers_of(model.REQUEST), [None, None, 5, 4095, 0])
 
 
 if __name__ == "__main__":

@@ -53,6 +53,25 @@ class Drawn(unittest.TestCase):
         self.assertLessEqual({"unsent", "giveup", "arrive", "done", "flush", "leave", "weight", "stop"}, words)
 
 
+    def test_agreements_begin_and_end(self) -> None:
+        answers: set[str] = set()
+        for seed in SEEDS:
+            maker = traces.Maker(random.Random(seed))
+            for _ in range(100):
+                for line in itertools.chain(maker.make_join(), maker.make_burst(), maker.make_pull(), maker.make_agree()):
+                    answers.add(" ".join(maker.write(line).split()[:2]))
+        self.assertLessEqual({"begun", "freed", "refused waits", "refused open", "refused offloaded"}, answers)
+        self.assertLessEqual({"held", "ceased"}, {answer.split()[0] for answer in answers})
+
+    def test_numbers_go_far_above_the_last_acknowledged_one(self) -> None:
+        maker = traces.Maker(random.Random(1), goes_far=True)
+        maker.write(f"join {maker.stations[0]} 256 0 3")
+        for line in maker.make_far():
+            maker.write(line)
+        held = maker.machine.stations[maker.stations[0]]
+        self.assertTrue(any(session.is_far(session.next) for session in held.sessions))
+
+
 class Shortened(unittest.TestCase):
     def test_only_the_needed_lines_are_left(self) -> None:
         lines = [b"line %d" % number for number in range(100)]

@@ -6,8 +6,11 @@ from collections.abc import Callable
 from wfdev.checks import worked
 from wfdev.checks.fuzz import scripts, subjects
 from wfdev.checks.fuzz.subjects import Ended
-from wfdev.model.rates import LOWEST, Bounds, Format, Rate
+from wfdev.model.frames import Frame
+from wfdev.model.rates import LOWEST, Bounds, Format, Rate, octets_alone
+from wfdev.model.session import End, Session
 from wfdev.model.settings import RANGES, Settings
+from wfdev.model.stations import Mode, Station
 from wfdev.model.text import replay
 from wfdev.model.tim import tim
 from wfdev.repo import paths
@@ -57,6 +60,28 @@ class Rates(unittest.TestCase):
 
     def test_a_frame_of_any_length_fits_alone(self) -> None:
         self.assertTrue(Bounds(agg=1, octets=8191, rate=LOWEST, cap=3000).fits([2304]))
+
+
+class Agreements(unittest.TestCase):
+    def test_a_number_is_far_above_the_last_acknowledged_one(self) -> None:
+        session = Session(1, 100)
+        self.assertEqual([session.is_far(number) for number in (2146, 2147)], [False, True])
+        session.add(Frame(0, 1, 0, 0))
+        session.end(100, End.ACKNOWLEDGED, 10)
+        self.assertEqual([session.is_far(number) for number in (2147, 2148)], [False, True])
+
+    def test_a_tid_without_an_agreement_needs_no_request(self) -> None:
+        held = Station(0, 1, 4095, 3, 1, mode=Mode.PLAIN)
+        session = held.sessions[0]
+        session.fail(session.add(Frame(0, 1, 0, 0)))
+        self.assertTrue(session.request_is_due())
+        held.catch_up_if_plain(0)
+        self.assertFalse(session.request_is_due())
+        self.assertEqual(held.receivers[0].data(4096, 7), [7])
+
+    def test_the_octets_of_a_frame_alone(self) -> None:
+        rates = (LOWEST, Rate(Format.VHT, 0, 20, 800, 1), Rate(Format.HE, 0, 20, 800, 1))
+        self.assertEqual([octets_alone(rate, 100, 8) for rate in rates], [138, 142, 142])
 
 
 class Settled(unittest.TestCase):

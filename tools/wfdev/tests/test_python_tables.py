@@ -3,6 +3,7 @@ import unittest
 
 from wfdev import header, python_tables
 from wfdev.header import Member
+from wfdev.python_tables import Named
 from wfdev.repo import paths
 
 TEXT = paths.read(paths.HEADER)
@@ -52,12 +53,15 @@ class Modules(unittest.TestCase):
         self.assertIn('    stations: int = 16\n    """Station numbers [1..256]."""\n', text)
 
     def test_errors(self) -> None:
-        text = python_tables.errors_module(TEXT, {14: "count", 25: "deficit", 1: ""})
+        refusals = {14: Named("open", "count"), 25: Named("debt", "deficit"), 35: Named("held", ""), 1: Named("bad-station", "")}
+        text = python_tables.errors_module(TEXT, refusals)
         self.assertIn("class Open(Refused):\n", text)
+        self.assertIn('class Held(Refused):\n', text)
         self.assertIn('    field = "deficit"\n', text)
         self.assertIn('    field = "count"\n', text)
         self.assertEqual(text.count("    field = "), 2)
         self.assertIn("class WrongTid(BlockError):\n", text)
+        self.assertRegex(text, r'class Held\(Refused\):\n.*\n\n    code = 35\n    word = "held"\n')
         self.assertIn("class NoMemory(WfError):\n", text)
 
     def test_each_line_fits(self) -> None:

@@ -111,6 +111,10 @@ mod tests {
     def test_long_functions_are_those_of_code(self) -> None:
         self.assertEqual([what for _, what in found(counters.long_functions, code(self.TEXT))], ["long: 41 lines"])
 
+    def test_written_rows_are_not_counted(self) -> None:
+        rows = "    // begin rows: a script writes these lines\n" + "    row();\n" * 41 + "    // end rows\n"
+        self.assertEqual(found(counters.long_functions, code("fn table()\n{\n" + rows + "}\n")), [])
+
     def test_tests_may_say_unreachable(self) -> None:
         self.assertEqual(found(counters.unreachable, code(self.TEXT)), [])
         self.assertEqual(len(found(counters.unreachable, code("fn f() {\n    unreachable!()\n}\n"))), 1)

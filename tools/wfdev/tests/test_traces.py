@@ -5,6 +5,7 @@ import unittest
 import xml.etree.ElementTree
 
 from wfdev.model import text
+from wfdev.model.frames import Fate
 from wfdev.repo import paths
 from wfdev.traces import calls, captures, explain, lines, replies, rules, runs, shown, timeline
 from wfdev.traces.ledger import Ledger
@@ -44,9 +45,14 @@ def explained(name: str) -> str:
     return how.shown(events(name)) + how.ended()
 
 
+def row_octets(name: str) -> bytes:
+    """Returns the trace of a worked row."""
+    return (paths.CHECKS / "worked.d" / f"{name}.in").read_bytes()
+
+
 def explained_row(name: str) -> str:
     """Returns the explanation of a worked row, with the answers of the model, in one line."""
-    octets = (paths.CHECKS / "worked.d" / f"{name}.in").read_bytes()
+    octets = row_octets(name)
     return " ".join(explain.Explain().shown(events_of(octets, text.replay(octets)[0].encode())).split())
 
 
@@ -87,7 +93,7 @@ class Pairs(unittest.TestCase):
                 found = events(name, size)
                 for event in found:
                     if isinstance(event, runs.Answered):
-                        kinds = {"refused", replies_of(calls.read(event.line.text).kind)}
+                        kinds = {"refused", *replies_of(calls.read(event.line.text).kind)}
                         self.assertIn(event.answer.split()[0], kinds, (name, event))
                 text = shown.Echo().shown(found)
                 self.assertEqual(
@@ -110,11 +116,12 @@ class Pairs(unittest.TestCase):
             self.assertEqual(found.line.octets, bad)
 
 
-def replies_of(kind: str) -> str:
-    """Returns the kind of the answers to a kind of call."""
-    names = "join leave rate tick enq pull arrive answer done sleep wake poll rx reap unsent giveup flush offload weight"
-    answers = "joined left set now accepted send released ba done slept woken polled charged reaped".split()
-    return dict(zip(names.split(), [*answers, "marked", "marked", "flushed", "joined", "set"]))[kind]
+def replies_of(kind: str) -> set[str]:
+    """Returns the kinds of the answers to a kind of call."""
+    names = "join leave rate tick enq pull arrive done sleep wake poll rx reap unsent giveup flush offload weight plain hold begin "
+    answers = "joined left set now accepted send released done slept woken polled charged reaped marked marked flushed joined set "
+    known = dict(zip(f"{names}free cease".split(), f"{answers}joined held begun freed ceased".split(), strict=True))
+    return {"ba", "ack"} if kind == "answer" else {known[kind]}
 
 
 class Fields(unittest.TestCase):
@@ -136,6 +143,8 @@ class Fields(unittest.TestCase):
         texts += ["ba 100 00000000000000ff", "ba 1 " + "0" * 63 + "5", "done acked 1 waiting 2 failed 3"]
         texts += ["slept", "woken", "polled be", "charged -5", "reaped 3 codel", "stopped", "started"]
         texts += ["marked", "flushed 3", "reaped 3 flushed", "refused marked"]
+        texts += ["send 0 sta 1 tid 2 air 3 plain 4:5 more", "ack", "held 4095", "begun", "freed", "ceased 2", "ceased 2 7 9"]
+        texts += ["reaped 3 ended", "refused held", "refused waits 1"]
         texts += ["refused open 2", "refused debt -7", "refused ahead 3952", "refused idle"]
         nested = {"frames": "wf_frames", "passed_up": "wf_passed_up", "block": "wf_block"}
         for text in texts:
@@ -152,6 +161,12 @@ class Fields(unittest.TestCase):
         self.assertTrue(found.fields["more"])
         batch = replies.read("send 9 sta 1 tid 2 air 3 batch 4 6 more")
         self.assertEqual((batch.frames, batch.fields["batch"], batch.fields["more"]), ([(4, 0), (6, 0)], True, True))
+        plain = replies.read("send 9 sta 1 tid 2 air 3 plain 4:5")
+        self.assertEqual((plain.frames, plain.fields["plain"], plain.fields["more"]), ([(4, 5)], True, False))
+        ceased = replies.read("ceased 2 7 9").fields
+        self.assertEqual(ceased, {"count": 2, "passed_up": {"ids": [7, 9], "count": 2}})
+        self.assertEqual(replies.read("held 4095").fields, {"start": 4095})
+        self.assertEqual(replies.read("refused waits 1").fields, {"refusal": "waits", "count": 1})
         self.assertEqual(replies.read("refused debt -7").fields, {"refusal": "debt", "deficit": -7})
         self.assertEqual(replies.read("refused ahead 8").fields, {"refusal": "ahead", "air": 8})
         block = replies.read("ba 1 " + "0" * 15 + "3" + "0" * 47 + "5").fields["block"]
@@ -164,10 +179,14 @@ class Fields(unittest.TestCase):
         texts += ["rate 1 he 11 160 800 2", "tick 5", "@7 enq 1 0 3 100", "pull be", "arrive 0 1", "answer 0"]
         texts += ["done 0 heard", "done 0 lost air 90", "sleep 1", "wake 1", "poll 1", "rx 1 vo 9", "reap"]
         texts += ["unsent 0 1", "giveup 0 1", "flush 1 0", "offload 1 3", "offload 1 3 2", "weight 1 2"]
+        texts += ["plain 1 0 3", "plain 1 0 3 2", "hold 1 0", "begin 1 0 64", "free 1 0", "cease 1 0"]
         for text in texts:
             self.assertLessEqual(set(calls.read(text).fields), self.struct("wf_call"), text)
         self.assertEqual(calls.read("join 1 64 0 3").fields["weight"], 1)
         self.assertEqual(calls.read("offload 1 3").fields["weight"], 1)
+        wanted = {"station": 1, "start": 4095, "exponent": 3, "weight": 1}
+        self.assertEqual(calls.read("plain 1 4095 3").fields, wanted)
+        self.assertEqual(calls.read("begin 1 0 64").fields, {"station": 1, "tid": 0, "window": 64})
         self.assertEqual(calls.read("rate 1 he 11 160 800 2").fields["guard"], 800)
         self.assertEqual(calls.read("done 0 lost air 90").fields, {"exchange": 0, "heard": False, "air": 90})
         self.assertEqual(calls.read("@7 reap").caller, 7)
@@ -209,6 +228,20 @@ class Follows(unittest.TestCase):
                 found, book = replies.read_summary(texts), booked(name)
                 held = sum(1 for frame in book.frames.values() if not frame.fate)
                 self.assertEqual((held, len(book.open)), (found["held"], found["open"]), name)
+
+
+    def test_the_frames_of_the_rows_with_agreements(self) -> None:
+        for path in sorted((paths.CHECKS / "worked.d").glob("*.in")):
+            octets = path.read_bytes()
+            if re.search(rb"^(plain|hold|begin|free|cease) \d", octets, re.M) and not path.stem.startswith("fault-"):
+                player, book = text.Player(), Ledger({})
+                for line in octets.splitlines():
+                    answer = player.play(line)
+                    if answer and line != b"end":
+                        book.take(calls.read(line.decode()), replies.read(answer))
+                assert player.machine is not None
+                held = [frame.id for frame in player.machine.frames if frame.fate is Fate.HELD]
+                self.assertEqual([frame.id for frame in book.frames.values() if not frame.fate], held, path.stem)
 
 
 class Explained(unittest.TestCase):
@@ -273,12 +306,43 @@ class Explained(unittest.TestCase):
         self.assertIn("The frames of station 0, TID 0, that are not on the air are to be dropped.", told)
         self.assertIn("is finished: it was dropped because its TID was flushed.", told)
 
+    def test_an_exchange_without_an_agreement(self) -> None:
+        told = explained_row("plain-duplicate-is-acknowledged")
+        self.assertIn("the first number 0, the exponent 3 and the weight 1; no TID has an agreement.", told)
+        self.assertIn("244 us of air. It is one frame without an agreement, not sent before.", told)
+        self.assertIn("It is one frame without an agreement; sent again: frame 0 (transmission 2).", told)
+        self.assertIn("The receiver passes nothing up: it has this frame already.", told)
+        self.assertIn("The Ack acknowledges the frame.", told)
+        told = explained_row("plain-frame-with-marks")
+        self.assertIn("its frame fails when the exchange ends, unless an Ack is heard", told)
+        self.assertIn("A frame fails after attempts (2) transmissions, or if the device gives it up.", told)
+
+    def test_a_number_that_is_sent_once(self) -> None:
+        told = explained_row("plain-number-4096-above-the-last-one")
+        last, next_ = (part for part in told.split("line ") if re.match(r"\d+: done 1[01] lost", part))
+        self.assertIn("A frame fails after attempts (2) transmissions.", last)
+        self.assertIn("Its number is 2,048 or more above the last acknowledged one of the TID, so it is sent once.", next_)
+
+    def test_agreements_begin_and_end(self) -> None:
+        told = explained_row("cease-drops-what-waits")
+        self.assertIn("The agreement of station 0, TID 0, ends.", told)
+        self.assertIn("are dropped: 4. The receiver passes up frames 1 and 3. The TID is held", told)
+        self.assertIn("Frame 0 is finished: it was dropped because the agreement of its TID ended.", told)
+        self.assertIn("0 of them in open exchanges. TID 0 is held, so no frame of it gets a number.", told)
+        self.assertIn("It is free: each frame waits for the Ack of the one before it.", told)
+        told = explained_row("begin-is-refused")
+        self.assertIn("Refused: The TID has 1 open exchange. Nothing has changed.", told)
+        self.assertIn("Refused: 1 sequence number of the TID waits to be sent. Nothing has changed.", told)
+        self.assertIn("It is held. An agreement may begin with the number 1.", told)
+        self.assertIn("An agreement of station 0, TID 0, begins with a window of 1.", told)
+
     def test_nothing_means_another_thing_for_each_call(self) -> None:
         told = " ".join(explained("sleeping-station").split())
         self.assertNotIn("There is nothing to answer, to send or to reap", told)
 
     def test_the_page_has_each_refusal(self) -> None:
-        self.assertEqual(len(rules.table()), 32)
+        listed = paths.read(paths.HEADER).partition("/* begin refusals")[2].partition("/* end refusals")[0]
+        self.assertEqual(len(rules.table()), len(re.findall(r"^  WF_\w+ = ", listed, re.M)))
         said = rules.rule("room", 9, {"room": 9})
         self.assertEqual(said, "9 frames are accepted and not yet reaped: as many as room (9).")
 
@@ -319,6 +383,12 @@ class Pictures(unittest.TestCase):
     def test_a_batch_is_drawn_by_what_its_device_says(self) -> None:
         made, _ = self.drawn("offloaded-station")
         self.assertEqual([bar.look for bar in made.bars], ["part", "whole"])
+
+    def test_exchanges_without_an_agreement_are_drawn(self) -> None:
+        octets, made = row_octets("free-goes-on-where-it-held"), timeline.Timeline()
+        made.take(events_of(octets, text.replay(octets)[0].encode()))
+        self.assertEqual([bar.look for bar in made.bars], ["unheard", "whole", "open"])
+        xml.etree.ElementTree.fromstring(made.text())
 
     def test_axes_have_titles_and_grey_looks_differ(self) -> None:
         _, root = self.drawn("weights")

@@ -49,7 +49,9 @@ class Words(Checkout):
         self.assertEqual(self.asked()[::2], ("", 1))
 
     def test_numbers_in_their_ranges_go_to_the_build(self) -> None:
-        for words in (["soak", "0", "1"], ["soak", "18446744073709551615", "1000000"], ["soak", "1", "2", "device"], ["live", "1", "8", "10000"]):
+        cases = [["soak", "0", "1"], ["soak", "18446744073709551615", "1000000"], ["live", "1", "8", "10000"]]
+        cases += [["soak", "1", "2", "device"], ["soak", "1", "2", "agreements"]]
+        for words in cases:
             self.assertEqual(self.asked(*words)[::2], ("", 125), words)
 
     def test_refusals_are_those_of_the_program(self) -> None:
