@@ -1,6 +1,6 @@
 -- A backlog keeps its invariant when one queue changes, and its tree of octets finds the longest queue.
 use Rattle.std.proofs.Common.{◌≡◌, ℕ, zero, suc, ◌+◌, ◌*◌, ◌-◌, ◌<◌, ◌≤◌, ◌^◌, Bool, true, false, Option, Some, None, List, [], ◌∷◌, ◌++◌, length, map, replicate, set, get_or, sum_by, refl, ap, sym, ◌∙◌, subst, arith, append_assoc, append-nil, length-set, length-append}
-use Rattle.std.specs.Prelude.{All, slice_index, ◌↔◌, IfNone, IfSome, IsNone, MatchOption}
+use Rattle.std.specs.Prelude.{All, slice_index, ◌↔◌, IfNone, IfSome, IsNone}
 use Rattle.std.proofs.lemmas.List.{get_or-map, get_or_read, map-set, set-set, set-get_or, length-replicate, length-map}
 use Rattle.std.proofs.lemmas.List.Sums.{sum_by-cons, sum_by-le, sum_by-set, get_or-le-sum_by}
 use Rattle.std.proofs.lemmas.List.Folds.{sum_by-replicate}
@@ -119,7 +119,7 @@ module _ (v : BacklogValue) (leaves : List ℕ) (ready : List Bool) (queued : �
   pub frames_within : (q : ℕ) → q < length v.queues → length (frames_at v q) ≤ queued
   frames_within q here = omega (arith, kept.queued_is, get_or-le-sum_by length v.queues q [] here)
 
-  pub octets_few : (q : ℕ) → q < length v.queues → queue_octets (frames_at v q) + 2304 < 2 ^ 64
+  octets_few : (q : ℕ) → q < length v.queues → queue_octets (frames_at v q) + 2304 < 2 ^ 44
   octets_few q here = omega (
     arith,
     octets_bound (frames_at v q) (frames_sized q here),
@@ -131,6 +131,9 @@ module _ (v : BacklogValue) (leaves : List ℕ) (ready : List Bool) (queued : �
 
   octets_read : (q x : ℕ) → q < length v.queues → x ≡ slice_index leaves q → x ≡ queue_octets (frames_at v q)
   octets_read q x here is = is ∙ octets_at q here
+
+  pub few_read : (q x : ℕ) → q < length v.queues → x ≡ slice_index leaves q → x < 2 ^ 44
+  few_read q x here is = omega (arith, octets_read q x here is, octets_few q here)
 
   -- one queue more octets fit
   pub push_fits : (q x len : ℕ) → q < length v.queues → x ≡ slice_index leaves q → len ≤ greatest_body →
@@ -225,66 +228,6 @@ module _ (v : BacklogValue) (leaves : List ℕ) (ready : List Bool) (queued : �
               (omega (arith, zero, get_or-le-sum_by length v.queues q [] longest.within)),
         )),
       )
-
--- ---- a queue loses its head, and a queue gains a frame
-
-pub head_taken : (o : Option FrameValue) (head : FrameValue) (before now : List FrameValue) →
-    o ≡ Some head → MatchOption o ((before ≡ []) × (now ≡ [])) (λ p. before ≡ p ∷ now) →
-    before ≡ head ∷ now
-head_taken o head before now is taken = subst (λ (p : Option FrameValue).
-    MatchOption p ((before ≡ []) × (now ≡ [])) (λ f. before ≡ f ∷ now)) is taken
-
-module _ (v : BacklogValue) (leaves : List ℕ) (ready : List Bool) (queued : ℕ)
-    (kept : IsBacklogKept v leaves ready queued) (from x len : ℕ) (frames now : List FrameValue)
-    (flag : Bool) (head : FrameValue) (here : from < length v.queues) (read : x ≡ slice_index leaves from)
-    (at : frames ≡ get_or v.queues from frames) (first : frames ≡ head ∷ now)
-    (flag_is : flag ≡ is_some_frame now) (len_is : len ≡ length head.body) where
-  between : IsBacklogKept (with_frames v from now) (set leaves from (x - len)) (set ready from flag)
-      (queued - 1)
-  between = kept_popped v leaves ready queued kept from x len frames now head _ flag here read at first
-      flag_is len_is refl
-
-  still_here : (to : ℕ) → to < length v.queues → to < length (set v.queues from now)
-  still_here to there = omega (arith, there, length-set v.queues from now)
-
-  some_queued : queued - 1 + 1 ≡ queued
-  some_queued = omega (
-    arith,
-    frames_within v leaves ready queued kept from here,
-    ap length (sym (get_or_read v.queues from frames here at []) ∙ first),
-  )
-
-  pub exchange_fits : (to y more : ℕ) → to < length v.queues → y ≡ slice_index (set leaves from
-      (x - len)) to →
-      more ≤ greatest_body → y + more < 2 ^ 64
-  exchange_fits to y more there = push_fits _ _ _ _ between to y more (still_here to there)
-
-  pub kept_exchanged : (to y more : ℕ) (frames2 now2 : List FrameValue) (f : FrameValue) (leaves2 : List ℕ)
-      (flag2 : Bool) → to < length v.queues → y ≡ slice_index (set leaves from (x - len)) to →
-      frames2 ≡ get_or (set v.queues from now) to frames2 → now2 ≡ frames2 ++ f ∷ [] →
-      flag2 ≡ true → more ≡ length f.body → 0 < more → more ≤ greatest_body →
-      leaves2 ≡ set (set leaves from (x - len)) to (y + more) → held_in_backlog v < v.room →
-      IsBacklogKept (record v { queues = set (set v.queues from now) to now2 })
-      leaves2 (set (set ready from flag) to flag2) queued
-  kept_exchanged to y more frames2 now2 f leaves2 flag2 there read2 at2 longer flag2_is more_is some few
-      leaf room =
-      subst (IsBacklogKept _ _ _) some_queued
-      (kept_pushed _ _ _ _ between to y more frames2 now2 f leaves2 flag2 (still_here to there) read2 at2
-      longer flag2_is more_is some few leaf (omega (arith, room, kept.queued_is, between.queued_is)))
-
-  pub held_exchanged : (to : ℕ) (now2 frames2 : List FrameValue) (f : FrameValue) → to < length v.queues →
-      frames2 ≡ get_or (set v.queues from now) to frames2 → now2 ≡ frames2 ++ f ∷ [] →
-      sum_by length (set (set v.queues from now) to now2) ≡ in_queues v
-  held_exchanged to now2 frames2 f there at2 longer = omega (
-    arith,
-    between.queued_is,
-    some_queued,
-    kept.queued_is,
-    sum_by-set length (set v.queues from now) to now2 [] (still_here to there),
-    ap length (longer ∙ ap (λ (xs : List FrameValue). xs ++ f ∷ [])
-        (get_or_read (set v.queues from now) to frames2 (still_here to there) at2 [])),
-    length-append (get_or (set v.queues from now) to []) (f ∷ []),
-  )
 
 -- ---- all frames of a queue leave, one by one
 

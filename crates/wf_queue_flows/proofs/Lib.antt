@@ -20,5 +20,6 @@ mod Puts
 mod Settings
 mod Taking
 mod Turning
+mod Weights
 pub mod Waiting
 mod Whole

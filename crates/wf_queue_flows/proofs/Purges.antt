@@ -94,16 +94,16 @@ count_from-more from (suc n) =
     let e : from + suc n ≡ suc from + n = omega arith in
     rw e (ap (λ (t : List ℕ). from ∷ t) (count_from-more (suc from) n))
 
-upto-more : (p : ℕ → Bool) (k : ℕ) → filter p (upto (suc k)) ≡ filter p (upto k) ++ filter p (k ∷ [])
+pub upto-more : (p : ℕ → Bool) (k : ℕ) → filter p (upto (suc k)) ≡ filter p (upto k) ++ filter p (k ∷ [])
 upto-more p k =
     let e : 0 + k ≡ k = omega arith in
     ap (filter p) (count_from-more 0 k ∙ ap (λ (m : ℕ). upto k ++ m ∷ []) e)
     ∙ filter-append p (upto k) (k ∷ [])
 
-one_passes : (p : ℕ → Bool) (k : ℕ) → p k ≡ true → filter p (k ∷ []) ≡ k ∷ []
+pub one_passes : (p : ℕ → Bool) (k : ℕ) → p k ≡ true → filter p (k ∷ []) ≡ k ∷ []
 one_passes p k holds = rw holds refl
 
-one_fails : (p : ℕ → Bool) (k : ℕ) → p k ≡ false → filter p (k ∷ []) ≡ []
+pub one_fails : (p : ℕ → Bool) (k : ℕ) → p k ≡ false → filter p (k ∷ []) ≡ []
 one_fails p k fails = rw fails refl
 
 module _ (cause : Cause) (codel : Codel → Codel) where

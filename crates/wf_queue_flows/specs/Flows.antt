@@ -15,7 +15,7 @@ use Rattle.wf_rotation.specs.Lists.{lists_at}
 use Rattle.wf_rotation.specs.Rotas.{Rotas, deficit_at, need_at}
 use Rattle.wf_def_world.specs.World.{Queue}
 use Rattle.wf_def_world.specs.FlowQueues.{longest_of}
-use Rattle.wf_queue_flows.specs.Backlog.{BacklogValue, frames_at, in_queues, first_id, item_of, with_frames, backlog_when_listed, after_head_drop, after_emptying, unchanged, renewed, given_at, backlog_after_take}
+use Rattle.wf_queue_flows.specs.Backlog.{BacklogValue, frames_at, queue_octets, in_queues, first_id, item_of, with_frames, backlog_when_listed, after_head_drop, after_emptying, unchanged, renewed, given_at, backlog_after_take}
 
 -- Queues below `flows` are shared by all TIDs; each TID has one more, its overflow queue. Queue q is key q of
 -- the rotations.
@@ -242,6 +242,10 @@ taken_for_tid v i now params = taken_from_picked (after_pick v i) (pick_of_tid v
 -- the queues of TID i, by their numbers
 abbrev pub queues_of : FlowsValue → ℕ → List ℕ
 queues_of v i = filter (is_listed v i) (upto (queues v))
+
+-- the octets of the bodies in the queues of TID i
+abbrev pub octets_of_tid : FlowsValue → ℕ → ℕ
+octets_of_tid v i = sum_by (λ q. queue_octets (frames_at v.backlog q)) (queues_of v i)
 
 -- all frames of these queues are dropped for this cause, and their CoDel states become `codel` of them
 unfoldable pub all_emptied : Cause → (Codel → Codel) → BacklogValue → List ℕ → BacklogValue

@@ -1,8 +1,8 @@
 //! Numbered queues of parcels, each with a CoDel state, and the list of the finished parcels.
 
-ghost use Rattle.std.specs.Prelude.{◌≡◌, ◌+◌, true, drop, slice_index, slice_set, ◌<◌, ◌≤◌, ◌↔◌, [], ◌∷◌, ◌++◌, Some, length, replicate, is_some, if◌then◌else◌, IfOk, IfNone, IfSome, IsNone, MatchOption};
+ghost use Rattle.std.specs.Prelude.{◌≡◌, ◌+◌, ◌^◌, true, drop, ◌<◌, ◌≤◌, ◌↔◌, [], ◌∷◌, ◌++◌, Some, length, replicate, is_some, if◌then◌else◌, IfOk, IfNone, IfSome, IsNone, MatchOption};
 ghost use Rattle.wf_def_codel.specs.Codel.{new_codel};
-ghost use Rattle.wf_queue_flows.specs.Backlog.{frames_at, in_queues, held_in_backlog, spare_of, first_id, frame_with_fate, with_frames, backlog_when_listed, after_head_drop, after_emptying, unchanged, renewed, IsLongest};
+ghost use Rattle.wf_queue_flows.specs.Backlog.{frames_at, queue_octets, codel_at, in_queues, held_in_backlog, spare_of, first_id, frame_with_fate, with_frames, backlog_when_listed, after_head_drop, after_emptying, unchanged, renewed, IsLongest};
 ghost use Rattle.std.specs.List.{list_any};
 ghost use Rattle.wf_frame.specs.declared.classes.Cause.TheVariants.{Left};
 ghost use Rattle.wf_queue_flows.specs.Flows.{longest_queue, is_of_queue};
@@ -12,16 +12,15 @@ use std::alloc::{AllocError, Global};
 use std::marker::Model;
 use wf_frame::{Cause, Fate};
 use wf_queue_parts::chain::{Chain, Parcel};
-use wf_queue_parts::peak::Peak;
+use wf_queue_parts::peak::lazy::LazyPeak;
 
 /// Numbered queues of parcels, each with a CoDel state, and the list of the finished parcels. Together they
-/// hold at most `room` parcels. The longest queue, and the queues that have frames, are known at each moment.
-/// Only `new` allocates.
+/// hold at most `room` parcels. Only `new` allocates.
 #[derive(Drop)]
 pub struct Backlog {
     queues: Vec<Chain>,
     /// For each queue the sum of the body lengths of its frames, in octets.
-    pub(crate) octets: Peak,
+    pub(crate) octets: LazyPeak,
     /// Whether each queue has frames.
     pub(crate) ready: Vec<bool>,
     pub(crate) codels: Vec<Codel>,
@@ -68,15 +67,6 @@ pub(crate) fn settle(mut parcel: Parcel, fate: Fate) -> Parcel
     parcel
 }
 
-/// Returns the octets of queue `to` once those of queue `from`, which may be the same, are `left`.
-fn octets_then(octets: &Peak, from: u32, left: u64, to: u32) -> u64
-    requires from { from < length octets.now }
-    requires to { to < length octets.now }
-    ensures { result ≡ slice_index (slice_set octets.now from left) to }
-{
-    if from == to { left } else { octets.value(to) }
-}
-
 /// Returns whether a chain has a frame of flow queue `q` after its first `skip` frames, if there are `flows`
 /// flow queues. Each parcel goes from the front to the end, so the chain ends as it began.
 fn holds_flow(chain: &mut Chain, skip: u32, flows: u32, q: u32) -> bool
@@ -119,7 +109,7 @@ impl Backlog {
         }) }
     {
         let count = queues as usize;
-        let octets = Peak::new(alloc, queues)?;
+        let octets = LazyPeak::new(alloc, queues)?;
         let ready = vec![in alloc; false; count]?;
         let codels = vec![in alloc; Codel::new(); count]?;
         let queues = empty_queues(alloc, queues)?;
@@ -169,7 +159,7 @@ impl Backlog {
 
     /// Drops the first frame of a queue for the limit: it goes last on the finished list as
     /// `Dropped(Overlimit)`. Then puts a parcel last in a queue, the same or another. Returns the id of the
-    /// dropped frame. The tournament is played once for both queues, so this costs hardly more than a `push`.
+    /// dropped frame.
     pub fn exchange(&mut self, from: u32, to: u32, parcel: Parcel) -> u64
         requires from { from < length self.old.queues }
         requires to { to < length self.old.queues }
@@ -180,15 +170,8 @@ impl Backlog {
             self.new ≡ with_frames dropped to (frames_at dropped to ++ parcel ∷ []) }
         ensures held { held_in_backlog self.new ≡ held_in_backlog self.old + 1 }
     {
-        let (source, target) = (from as usize, to as usize);
-        let head = self.queues[source].pop_front().unwrap();
-        self.ready[source] = self.queues[source].len() != 0;
-        let left = self.octets.value(from) - u64::from(head.frame().len());
-        let before = octets_then(&self.octets, from, left, to);
-        let more = before + u64::from(parcel.frame().len());
-        self.queues[target].push_back(parcel);
-        self.ready[target] = true;
-        self.octets.set_both(from, left, to, more);
+        let head = self.pop(from).unwrap();
+        self.push(to, parcel);
         let id = head.frame().id();
         self.finish(settle(head, Fate::Dropped(Cause::Overlimit)));
         id
@@ -276,15 +259,33 @@ impl Backlog {
         self.queues[q as usize].len()
     }
 
-    /// Returns the queue with the most octets, the least number on a tie, or None if all queues are empty.
-    /// Constant time.
-    pub fn longest(&self) -> Option<u32>
-        ensures none { IsNone result ↔ (in_queues self.now ≡ 0) }
-        ensures some { IfSome result (λ q. q ≡ longest_queue self.now) }
-        ensures greatest { IfSome result (λ q. IsLongest self.now q) }
-        ensures within { IfSome result (λ q. q < length self.now.queues) }
-        ensures has_frames { IfSome result (λ q. 0 < length (frames_at self.now q)) }
+    /// Returns the sum of the body lengths of a queue's frames, in octets.
+    pub fn octets_of(&self, q: u32) -> u64
+        requires { q < length self.now.queues }
+        ensures octets { result ≡ queue_octets (frames_at self.now q) }
+        ensures few { result < 2 ^ 44 }
     {
-        self.octets.best()
+        self.octets.value(q)
+    }
+
+    /// Returns the CoDel state of a queue.
+    pub fn codel_of(&self, q: u32) -> Codel
+        requires { q < length self.now.queues }
+        ensures { result ≡ codel_at self.now q }
+    {
+        self.codels[q as usize]
+    }
+
+    /// Returns the queue with the most octets, the least number on a tie, or None if all queues are empty.
+    /// It first plays the tournament for the queues whose octets changed since the last call, at most 256.
+    pub fn longest(&mut self) -> Option<u32>
+        ensures none { IsNone result ↔ (in_queues self.old ≡ 0) }
+        ensures some { IfSome result (λ q. q ≡ longest_queue self.old) }
+        ensures greatest { IfSome result (λ q. IsLongest self.old q) }
+        ensures within { IfSome result (λ q. q < length self.old.queues) }
+        ensures has_frames { IfSome result (λ q. 0 < length (frames_at self.old q)) }
+        ensures same { self.new ≡ self.old }
+    {
+        self.octets.best().leaf
     }
 }

@@ -197,6 +197,30 @@ impl Codel {
         }
     }
 
+    /// Returns whether it drops: frames have waited longer than the target for an interval (`dropping_` of RFC
+    /// 8289).
+    pub fn is_dropping(&self) -> bool
+        ensures { result ≡ self.now.dropping }
+    {
+        self.dropping
+    }
+
+    /// Returns the number of frames that the control law counts: while it drops, those dropped since dropping
+    /// began (`count_` of RFC 8289).
+    pub fn count(&self) -> u32
+        ensures { result ≡ self.now.count }
+    {
+        self.count
+    }
+
+    /// Returns the time in microseconds at which the next frame is dropped, while it drops (`drop_next_` of
+    /// RFC 8289).
+    pub fn drop_next(&self) -> u64
+        ensures { result ≡ self.now.drop_next }
+    {
+        self.drop_next
+    }
+
     /// Ends the dropping state, and forgets that frames waited too long. The numbers of the control law stay.
     pub fn calm(&mut self)
         ensures { self.new ≡ calmed self.old }

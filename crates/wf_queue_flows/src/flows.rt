@@ -3,13 +3,13 @@
 ghost use Rattle.std.specs.Prelude.{◌≡◌, ℕ, ◌+◌, ◌<◌, ◌≤◌, ◌^◌, ◌↔◌, true, false, length, [], ◌∷◌, ◌++◌, IfOk, IfSome, IfNone, OnSome, IsSome, MatchOption, Some, None, option_map};
 ghost use Rattle.wf_frame.specs.Settings.{first_out_of_range};
 ghost use Rattle.wf_queue_flows.specs.CodelParams.{params_of};
-ghost use Rattle.wf_queue_flows.specs.Backlog.{frames_at, in_queues, held_in_backlog, first_id, after_head_drop, after_emptying, unchanged, IsLongest};
+ghost use Rattle.wf_queue_flows.specs.Backlog.{frames_at, queue_octets, codel_at, in_queues, held_in_backlog, first_id, after_head_drop, after_emptying, unchanged, IsLongest};
 ghost use Rattle.wf_frame.specs.Classes.{tid_number};
-ghost use Rattle.wf_queue_flows.specs.Flows.{settings, tids, queues, is_listed, frames_of_tid, flows_at_limit, longest_queue, loses_next, dropped_for_limit, queue_for, after_limit, with_listed_queue, with_appended, after_put, taken_for_tid, after_purge, after_tid_flush, empty_flows, AreListedOnce, TakeGives};
+ghost use Rattle.wf_queue_flows.specs.Flows.{settings, tids, queues, is_listed, frames_of_tid, octets_of_tid, flows_at_limit, longest_queue, loses_next, dropped_for_limit, queue_for, after_limit, with_listed_queue, with_appended, after_put, taken_for_tid, after_purge, after_tid_flush, empty_flows, AreListedOnce, TakeGives};
 ghost use Rattle.wf_queue_flows.specs.Kept.{CanList, without_queue};
 
 use crate::backlog::{Backlog, Taken};
-use crate::codel::Params;
+use crate::codel::{Codel, Params};
 use std::alloc::{AllocError, Global};
 use std::marker::Model;
 use wf_frame::{Cause, Config, tid_number};
@@ -134,6 +134,46 @@ impl Flows {
         self.waiting.queued
     }
 
+    /// Returns the number of queues, which are numbered from 0: the shared queues, and then an overflow queue
+    /// for each TID, by 8 times its station plus the TID.
+    pub fn queues(&self) -> u32
+        ensures { result ≡ queues self.now }
+    {
+        self.flows + 8 * self.stations
+    }
+
+    /// Returns the octets of the bodies in a queue.
+    pub fn octets_of(&self, q: u32) -> u64
+        requires { q < queues self.now }
+        ensures { result ≡ queue_octets (frames_at self.now.backlog q) }
+    {
+        self.waiting.octets_of(q)
+    }
+
+    /// Returns the CoDel state of a queue.
+    pub fn codel_of(&self, q: u32) -> Codel
+        requires { q < queues self.now }
+        ensures { result ≡ codel_at self.now.backlog q }
+    {
+        self.waiting.codel_of(q)
+    }
+
+    /// Returns the octets of the bodies in the queues that a TID lists. It looks at each queue number once.
+    pub fn octets(&self, station: u16, tid: u8) -> u64
+        requires station { station < self.now.stations }
+        requires tid { tid < 8 }
+        ensures { result ≡ octets_of_tid self.now (tid_number station tid) }
+    {
+        let list = tid_number(station, tid);
+        let mut octets = 0;
+        for q in 0..self.queues() {
+            if self.lists(list, q) {
+                octets += self.waiting.octets_of(q);
+            }
+        }
+        octets
+    }
+
     /// Puts a frame into a queue of its station and TID (algorithm 1 of "Ending the Anomaly"). The queue
     /// is the flow's number modulo `flows`, or the TID's overflow queue if another TID lists that queue.
     /// With `keep_order`, it is also the overflow queue while that has a frame of that queue's flows. If
@@ -250,7 +290,7 @@ impl Flows {
         if count == 0 {
             return 0;
         }
-        for q in 0..self.flows + 8 * self.stations {
+        for q in 0..self.queues() {
             if self.lists(list, q) {
                 self.empty_queue(list, q, Cause::Flushed);
             }
@@ -281,23 +321,23 @@ impl Flows {
     }
 
     // Returns the longest queue if the queues hold `limit` frames or more; its head has to be dropped.
-    fn over_limit(&self) -> Option<Listed>
-        ensures roomy { IfNone result (flows_at_limit self.now ≡ false) }
-        ensures full { IfSome result (λ _. flows_at_limit self.now ≡ true) }
-        ensures longest { IfSome result (λ from. from.queue ≡ longest_queue self.now.backlog) }
-        ensures greatest { IfSome result (λ from. IsLongest self.now.backlog from.queue) }
-        ensures frames { IfSome result (λ from. 0 < length (frames_at self.now.backlog from.queue)) }
-        ensures queue { IfSome result (λ from. from.queue < queues self.now) }
-        ensures list { IfSome result (λ from. from.list < tids self.now) }
-        ensures lists { IfSome result (λ from. is_listed self.now from.list from.queue ≡ true) }
-        ensures only { IfSome result (λ from. (i : ℕ) → is_listed self.now i from.queue ≡ true →
+    fn over_limit(&mut self) -> Option<Listed>
+        ensures roomy { IfNone result (flows_at_limit self.old ≡ false) }
+        ensures full { IfSome result (λ _. flows_at_limit self.old ≡ true) }
+        ensures longest { IfSome result (λ from. from.queue ≡ longest_queue self.old.backlog) }
+        ensures greatest { IfSome result (λ from. IsLongest self.old.backlog from.queue) }
+        ensures frames { IfSome result (λ from. 0 < length (frames_at self.old.backlog from.queue)) }
+        ensures queue { IfSome result (λ from. from.queue < queues self.old) }
+        ensures list { IfSome result (λ from. from.list < tids self.old) }
+        ensures lists { IfSome result (λ from. is_listed self.old from.list from.queue ≡ true) }
+        ensures only { IfSome result (λ from. (i : ℕ) → is_listed self.old i from.queue ≡ true →
             i ≡ from.list) }
+        ensures same { self.new ≡ self.old }
     {
-        let waiting = &self.waiting;
-        if waiting.queued < self.limit {
+        if self.waiting.queued < self.limit {
             return None;
         }
-        let q = waiting.longest()?;
+        let q = self.waiting.longest()?;
         let (list, _) = self.rota.where_is(q)?;
         Some(Listed { list, queue: q })
     }

@@ -1,5 +1,5 @@
 -- A way from a leaf to the root halves the node's number in each step.
-use Rattle.std.proofs.Common.{◌≡◌, ℕ, ◌+◌, ◌*◌, ◌/◌, ◌^◌, ◌<◌, ◌≤◌, inl, inr, arith}
+use Rattle.std.proofs.Common.{◌≡◌, ℕ, ◌+◌, ◌*◌, ◌/◌, ◌^◌, ◌<◌, ◌≤◌, inl, inr, ap, arith}
 use Rattle.std.proofs.Math.Nat.{mul-le-mul_left, pow-le-pow_right}
 use Rattle.std.proofs.lemmas.Nat.{pow-add}
 use Rattle.std.proofs.lemmas.Bool.{cases_lt}
@@ -27,3 +27,19 @@ pub levels_halved : (node p total : ℕ) → total < (node + 1) * p → total < 
 levels_halved node p total levels =
     let more : p * (node + 1) ≤ p * (node / 2 * 2 + 2) = mul-le-mul_left p (omega arith) in
     omega arith
+
+-- a climb below a tree of fewer than 2^most nodes
+pub below_most : (levels nodes most : ℕ) → 2 ^ levels ≤ nodes → nodes < 2 ^ most → levels < most
+below_most levels nodes most cost few = elim (cases_lt levels most) [
+  | inl low ↦ low
+  | inr high ↦
+      let wide : 2 ^ most ≤ 2 ^ levels = pow-le-pow_right (let two : 0 < 2 = omega arith in two) high in
+      absurd (omega (arith, wide))
+]
+
+-- one climb less is left, and the climbs so far are one more
+pub one_climbed : (levels more left before most : ℕ) → before ≡ left + 1 → more < most →
+    levels + before * most ≤ 256 * most → levels + more + left * most ≤ 256 * most
+one_climbed levels more left before most one low cost =
+    let each : before * most ≡ (left + 1) * most = ap (λ (n : ℕ). n * most) one in
+    omega (arith, each)

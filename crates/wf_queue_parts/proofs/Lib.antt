@@ -8,3 +8,4 @@ pub mod Values
 mod CostLemmas
 mod Descent
 mod TreeLemmas
+mod LazyLemmas

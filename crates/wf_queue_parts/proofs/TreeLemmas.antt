@@ -12,7 +12,7 @@ use Rattle.wf_queue_parts.specs.declared.peak.Candidate.{Candidate}
 use Rattle.wf_queue_parts.specs.Best.{IsBest}
 use Rattle.wf_queue_parts.specs.Tree.{no_candidate, node_at, is_ahead, winner_of, values_of, IsPlayedBut, IsFilledFrom}
 
-eq_or_ne : (a b : ℕ) → (a ≡ b) ⊎ (a ≢ b)
+pub eq_or_ne : (a b : ℕ) → (a ≡ b) ⊎ (a ≢ b)
 eq_or_ne a b = elim (cases_lt a b) [
   | inl less ↦ inr (λ e. omega arith)
   | inr more ↦ elim (eq-or-lt_of_le more) [ inl e ↦ inl (sym e) | inr above ↦ inr (λ e. omega arith) ]

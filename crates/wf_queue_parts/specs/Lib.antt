@@ -3,3 +3,4 @@ pub mod Links
 pub mod OwnedNode
 pub mod Best
 pub mod Tree
+pub mod Lazy

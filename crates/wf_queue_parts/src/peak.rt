@@ -1,5 +1,8 @@
 //! A tournament tree over numbered leaves. It knows the leaf of the greatest value at each moment; a leaf is
-//! set level by level.
+//! set level by level. The module `lazy` has a tree whose leaves are set in constant time, and which climbs
+//! when the greatest value is asked for.
+
+pub mod lazy;
 
 ghost use Rattle.std.specs.Prelude.{◌≡◌, ℕ, ◌+◌, ◌-◌, ◌*◌, ◌^◌, ◌<◌, ◌≤◌, length, replicate, slice_index, slice_set, IfOk, IfNone, IfSome};
 ghost use Rattle.wf_queue_parts.specs.Best.{IsBest, IsFirstFrom, IsPowerOfTwo};
@@ -108,38 +111,29 @@ impl Peak {
         levels
     }
 
-    /// Sets the value of one leaf, and then the value of a second, which may be the same. If the first leaf
-    /// had the greatest value, and the second does not get it, this costs hardly more than one `set`: the
-    /// second leaf is set first, up to the first node that keeps its winner.
-    pub fn set_both(&mut self, first: u32, value: u64, second: u32, other: u64)
-        requires first { first < length self.old }
-        requires second { second < length self.old }
-        ensures { self.new ≡ slice_set (slice_set self.old first value) second other }
-    {
-        self.set_until_kept(second, other);
-        if first != second {
-            self.set(first, value);
-        }
-    }
-
     // Sets the value of a leaf, and the winners of the nodes above it up to the first that keeps its winner.
-    fn set_until_kept(&mut self, leaf: u32, value: u64)
+    // Returns the number of levels that it climbed.
+    fn set_until_kept(&mut self, leaf: u32, value: u64) -> u32
         requires { leaf < length self.old }
-        ensures { self.new ≡ slice_set self.old leaf value }
+        ensures values { self.new ≡ slice_set self.old leaf value }
+        ensures cost { 2 ^ result ≤ 2 * length self.old }
     {
         let mut node = self.count + leaf as usize;
         let mut won = Candidate { value, leaf };
         self.nodes[node] = won;
+        let mut climbed = 0;
         while node > 1 {
             let sibling = self.nodes[node ^ 1];
             won = winner_of(won, sibling);
             node /= 2;
+            climbed += 1;
             let before = self.nodes[node];
             if before.value == won.value && before.leaf == won.leaf {
-                return;
+                return climbed;
             }
             self.nodes[node] = won;
         }
+        climbed
     }
 
     /// Returns the value of a leaf.

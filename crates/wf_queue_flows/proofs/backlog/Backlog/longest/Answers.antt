@@ -9,16 +9,16 @@ use Rattle.wf_queue_flows.proofs.backlog.Backlog.longest.Goals as goal
 
 pub returns-clause-none : goal.returns-clause-none
 returns-clause-none c =
-    subst (λ (v : BacklogValue). IsNone c.best.result ↔ (in_queues v ≡ 0)) c.self.view_is
-    (best_none _ _ _ _ c.self.invariant c.best.result c.best.ensures.none c.best.ensures.some)
+    subst (λ (v : BacklogValue). IsNone c.best.result.leaf ↔ (in_queues v ≡ 0)) c.self.view_is
+    (best_none _ _ _ _ c.self.invariant c.best.result.leaf c.best.ensures.none c.best.ensures.some)
 
 pub returns-clause-some : goal.returns-clause-some
 returns-clause-some c =
-    subst (λ (v : BacklogValue). IfSome c.best.result (λ q. q ≡ longest_queue v)) c.self.view_is
-    (longest_some _ c.best.result
-    (best_greatest _ _ _ _ c.self.invariant c.best.result c.best.ensures.some))
+    subst (λ (v : BacklogValue). IfSome c.best.result.leaf (λ q. q ≡ longest_queue v)) c.self.view_is
+    (longest_some _ c.best.result.leaf
+    (best_greatest _ _ _ _ c.self.invariant c.best.result.leaf c.best.ensures.some))
 
 pub returns-clause-greatest : goal.returns-clause-greatest
 returns-clause-greatest c =
-    subst (λ (v : BacklogValue). IfSome c.best.result (λ q. IsLongest v q)) c.self.view_is
-    (best_greatest _ _ _ _ c.self.invariant c.best.result c.best.ensures.some)
+    subst (λ (v : BacklogValue). IfSome c.best.result.leaf (λ q. IsLongest v q)) c.self.view_is
+    (best_greatest _ _ _ _ c.self.invariant c.best.result.leaf c.best.ensures.some)

@@ -24,17 +24,24 @@ number c = omega (
   ap (λ (f : FrameValue). f.tid) c.frame-2.ensures,
 )
 
+-- the limit and the choice of a queue leave the flow queues as they are
+same : (c : After-list_queue) → c.queue_for-q.new.self ≡ c.args.self.now
+same c = c.queue_for-q.ensures.same ∙ c.over_limit-over.ensures.same
+
 -- the queue for the frame is the one of the definition
 chosen : (c : After-list_queue) → c.queue_for-q.result
     ≡ queue_for (after_limit c.args.self.now) c.tid_number-list.result c.args.parcel.flow
-chosen c = c.queue_for-q.ensures.queue ∙ ap (queue_for (after_limit c.args.self.now) c.tid_number-list.result)
+chosen c = c.queue_for-q.ensures.queue
+    ∙ ap (λ (w : FlowsValue). queue_for (after_limit w) c.tid_number-list.result c.flow-flow.result)
+    c.over_limit-over.ensures.same
+    ∙ ap (queue_for (after_limit c.args.self.now) c.tid_number-list.result)
     (c.flow-flow.ensures ∙ ap (λ (f : FrameValue). f.flow) c.frame-3.ensures)
 
 -- that queue is listed
 listed : (c : After-list_queue) → c.list_queue.new.self
     ≡ with_listed_queue c.args.self.now c.tid_number-list.result c.queue_for-q.result
 listed c = c.list_queue.ensures.listed ∙ ap (λ (w : FlowsValue). with_listed_queue w c.tid_number-list.result
-    c.queue_for-q.result) c.queue_for-q.ensures.same
+    c.queue_for-q.result) (same c)
 
 low_list : (c : After-list_queue) → c.tid_number-list.result < tids c.list_queue.new.self
 low_list c = omega (
@@ -43,20 +50,21 @@ low_list c = omega (
   c.requires.station,
   c.requires.tid,
   c.list_queue.ensures.stations,
-  ap (λ (w : FlowsValue). tids w) c.queue_for-q.ensures.same,
+  ap (λ (w : FlowsValue). tids w) (same c),
 )
 
 pub overflow_add-index_mut : goal.overflow_add-index_mut
 overflow_add-index_mut c =
-    let low = low_list (goal.at.overflow_add-index_mut c).After-list_queue in
+    let at = (goal.at.overflow_add-index_mut c).After-list_queue in
+    let low = low_list at in
     let room : held_in_backlog c.list_queue.new.self.backlog < c.list_queue.new.self.backlog.room = omega (
       arith,
       c.requires.room,
       ap (λ (all : List (List FrameValue)). sum_by length all) c.list_queue.ensures.frames,
       ap (λ (fs : List FrameValue). length fs) c.list_queue.ensures.finished,
       c.list_queue.ensures.room,
-      ap (λ (w : FlowsValue). held_in_backlog w.backlog) c.queue_for-q.ensures.same,
-      ap (λ (w : FlowsValue). w.backlog.room) c.queue_for-q.ensures.same,
+      ap (λ (w : FlowsValue). held_in_backlog w.backlog) (same at),
+      ap (λ (w : FlowsValue). w.backlog.room) (same at),
     ) in
     let small = append_fits _ _ _ c.self.view_is c.self.invariant c.tid_number-list.result _ low room
     c.index_mut.ensures.value in
@@ -106,7 +114,8 @@ returns-in-Some-clause-dropped c = full_id c.args.self.now c.in-Some.ensures.ful
     c.in-Some.ensures.longest _
     (c.exchange.ensures.id ∙ ap (λ (all : List (List FrameValue)).
     first_id (slice_index_or all c.in-Some.from.queue []))
-    (c.list_queue.ensures.frames ∙ ap (λ (w : FlowsValue). w.backlog.queues) c.queue_for-q.ensures.same))
+    (c.list_queue.ensures.frames ∙ ap (λ (w : FlowsValue). w.backlog.queues)
+    (same (goal.at.returns-in-Some-clause-dropped c).After-list_queue)))
 
 pub returns-in-Some-clause-settings : goal.returns-in-Some-clause-settings
 returns-in-Some-clause-settings c = ap settings (returns-in-Some-clause-put c)
