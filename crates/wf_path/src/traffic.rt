@@ -1,12 +1,12 @@
 //! The TIM element, which lists the sleeping stations that have traffic.
 
-ghost use Rattle.std.specs.Prelude.{◌≡◌, ◌≤◌, ◌&&◌, ℕ, Some, None, length, take, drop};
+ghost use Rattle.std.specs.Prelude.{◌≡◌, ◌≤◌, ◌&&◌, ℕ, Some, None, false, length, take, drop, replicate};
 ghost use Rattle.wf_frame.specs.Frames.{FrameValue};
 ghost use Rattle.wf_def_world.specs.World.{World};
 ghost use Rattle.wf_def_world.specs.Text.{traffic_map, with_traffic};
 ghost use Rattle.wf_send_half_model.specs.Standing.{StandsFor};
 ghost use Rattle.wf_path.specs.Addresses.{is_of, made_up_aids};
-ghost use Rattle.wf_path.specs.Traffic.{has_traffic_of, aids_shown, ArePresent};
+ghost use Rattle.wf_path.specs.Traffic.{has_traffic_of, aids_shown, identifiers, ArePresent};
 
 use crate::Path;
 use crate::addresses::AddressBook;
@@ -55,23 +55,29 @@ impl Path {
             result ≡ length (traffic_map (aids_shown self.now.addresses bss w)) }
         ensures rest { drop result out.new ≡ drop result out.old }
     {
-        encode_tim(&present_in(&self.half, &self.addresses, bss), 0, 1, out)
+        let mut present = [false; IDENTIFIERS];
+        mark_present(&self.half, &self.addresses, bss, &mut present);
+        encode_tim(&present, 0, 1, out)
     }
 }
 
-/// Returns for each number from 0 to the greatest AID, whether a station with it sleeps and has traffic, of
-/// this BSS if one is given.
-fn present_in(half: &Transmit, addresses: &AddressBook, bss: Option<[u8; 6]>) -> [bool; 2008]
-    requires { half.now.config.stations ≤ 256 }
-    ensures { ArePresent result addresses.now
+/// Marks the association identifiers of the stations that sleep and have traffic, of this BSS if one is given.
+/// No entry may be marked before. It returns no array, since that would take twice the stack.
+fn mark_present(
+    half: &Transmit,
+    addresses: &AddressBook,
+    bss: Option<[u8; 6]>,
+    present: &mut [bool; 2008],
+)
+    requires few { half.now.config.stations ≤ 256 }
+    requires none { present.old ≡ replicate identifiers false }
+    ensures { ArePresent present.new addresses.now
         (λ s. has_traffic_of half.now s && is_of addresses.now bss s) half.now.config.stations }
 {
-    let mut present = [false; IDENTIFIERS];
     for number in 0..half.config().stations {
         let station = number as u16;
         if half.has_traffic(station) && addresses.is_of(bss, station) {
             present[usize::from(addresses.aid(station))] = true;
         }
     }
-    present
 }

@@ -11,23 +11,23 @@ use Rattle.wf_path.proofs.Inside.{stands_inside}
 use Rattle.wf_path.proofs.Values.{addresses_are}
 use Rattle.wf_path.proofs.path.Path.write_tim.Goals as goal
 
-pub present_in-requires : goal.present_in-requires
-present_in-requires c =
+pub mark_present-requires-clause-few : goal.mark_present-requires-clause-few
+mark_present-requires-clause-few c =
     let few = c.self.invariant.stands.reached.in_range.stations.1 in
     omega (arith, few, ap (λ (k : Config). k.stations) c.self.invariant.stands.parts.others.config)
 
 pub returns-clause-octets : goal.returns-clause-octets
 returns-clause-octets c w bodies h =
-    let aids : aids_of c.present_in.result ≡ aids_shown c.args.self.now.addresses c.args.bss w =
+    let aids : aids_of c.mark_present.new.present ≡ aids_shown c.args.self.now.addresses c.args.bss w =
     shown_are c.self.inside.half w bodies (stands_inside c.self.view_is w bodies h)
-    c.present_in.result c.self.inside.addresses c.args.bss c.present_in.ensures
+    c.mark_present.new.present c.self.inside.addresses c.args.bss c.mark_present.ensures
     ∙ ap (λ (a : Addresses). aids_shown a c.args.bss w) (addresses_are c.self.view_is) in
     c.encode_tim.ensures.octets ∙ ap (tim_element 0 1) aids
 
 pub returns-clause-size : goal.returns-clause-size
 returns-clause-size c w bodies h =
-    let aids : aids_of c.present_in.result ≡ aids_shown c.args.self.now.addresses c.args.bss w =
+    let aids : aids_of c.mark_present.new.present ≡ aids_shown c.args.self.now.addresses c.args.bss w =
     shown_are c.self.inside.half w bodies (stands_inside c.self.view_is w bodies h)
-    c.present_in.result c.self.inside.addresses c.args.bss c.present_in.ensures
+    c.mark_present.new.present c.self.inside.addresses c.args.bss c.mark_present.ensures
     ∙ ap (λ (a : Addresses). aids_shown a c.args.bss w) (addresses_are c.self.view_is) in
     c.encode_tim.ensures.size ∙ ap (λ (l : List ℕ). length (tim_element 0 1 l)) aids

@@ -1,16 +1,19 @@
--- Proves what `present_in` promises: each step sets the entry of one more station, by the lemmas of
+-- Proves what `mark_present` promises: each step sets the entry of one more station, by the lemmas of
 -- Identifiers.
 use Rattle.std.proofs.Common.{sym, ◌∙◌, subst, ℕ, ◌+◌, Bool, List, ◌&&◌}
 use Rattle.std.proofs.lemmas.Bool.{and_from, and_left, and_right}
 use Rattle.wf_path.specs.Addresses.{is_of, IsAid}
 use Rattle.wf_path.specs.Traffic.{has_traffic_of, ArePresent}
 use Rattle.wf_path.proofs.Identifiers.{none_present, one_more, one_less}
-use Rattle.wf_path.proofs.traffic.present_in.Goals as goal
-use Rattle.wf_path.proofs.traffic.present_in.Goals.{then-has_traffic+then-is_of, else-has_traffic, else-has_traffic-via-then-has_traffic+else-is_of, else-has_traffic-via-else-has_traffic}
+use Rattle.wf_path.proofs.traffic.mark_present.Goals as goal
+use Rattle.wf_path.proofs.traffic.mark_present.Goals.{then-has_traffic+then-is_of, else-has_traffic, else-has_traffic-via-then-has_traffic+else-is_of, else-has_traffic-via-else-has_traffic}
 
 pub loop-number-init : goal.loop-number-init
-loop-number-init c = none_present c.args.addresses.now
-    (λ s. has_traffic_of c.args.half.now s && is_of c.args.addresses.now c.args.bss s)
+loop-number-init c =
+    let shown : ℕ → Bool =
+    λ s. has_traffic_of c.args.half.now s && is_of c.args.addresses.now c.args.bss s in
+    subst (λ (p : List Bool). ArePresent p c.args.addresses.now shown 0) (sym c.requires.none)
+    (none_present c.args.addresses.now shown)
 
 pub loop-number-preserved : goal.loop-number-preserved
 loop-number-preserved c =
