@@ -632,12 +632,11 @@ int32_t wf_path_begin(struct wf_path *path, uint16_t station, uint8_t tid, uint1
 int32_t wf_path_free_tid(struct wf_path *path, uint16_t station, uint8_t tid, struct wf_reply *reply);
 
 /* Ends the agreement of a TID (0 to 7). The TID is then held. Its frames with sequence numbers that wait to be
- * sent are dropped as WF_ENDED, and `count` of the reply is their number; queued frames stay. If an exchange of
- * the TID is open, call wf_path_stop, end the exchange, and call this function again. After it, send a DELBA,
- * and call wf_path_free_tid when it is acknowledged. For an agreement with another window send an ADDBA request
- * instead; for its starting sequence number call wf_path_free_tid and then wf_path_hold, without a pull between
- * them. Returns WF_OK; WF_BAD_STATION; WF_BAD_TID; WF_NO_STATION; WF_NOT_AGREED; or WF_OPEN if `count` exchanges
- * of the TID are open. */
+ * sent are dropped as WF_ENDED, and `count` of the reply is their number; queued frames stay. If an exchange
+ * of the TID is open, call wf_path_stop, end the exchange, and call this function again. After it, send a
+ * DELBA, and call wf_path_free_tid when it is acknowledged; for an agreement with another window, call
+ * wf_path_hold before the next pull. Returns WF_OK; WF_BAD_STATION; WF_BAD_TID; WF_NO_STATION; WF_NOT_AGREED;
+ * or WF_OPEN if `count` exchanges of the TID are open. */
 int32_t wf_path_cease(struct wf_path *path, uint16_t station, uint8_t tid, struct wf_reply *reply);
 
 /* Sets the weight of a live station in airtime, 1 to 16. Its deficit in a class is then at most its new

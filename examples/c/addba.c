@@ -4,9 +4,10 @@
  * agreement, the driver holds the TID (wf_path_hold), and waits until no frame of it is on the air or waits to be sent
  * again (wf_path_drained). Then it sends an ADDBA request with the number that the hold returned. If the station
  * accepts, the agreement begins (wf_path_begin), and aggregates follow. If it declines, the TID is plain again
- * (wf_path_free_tid). If no response comes, the station may have accepted: then the driver sends a DELBA, and the TID
- * is plain again after its Ack. To end an agreement, the driver stops the station until no exchange is open, and calls
- * wf_path_cease, which drops the frames that wait to be sent again. Then it sends a DELBA, or asks for another window.
+ * (wf_path_free_tid). If no response comes, the station may have accepted, so the driver sends a DELBA, and the TID is
+ * plain again after its Ack. To end an agreement, the driver stops the station until no exchange is open, calls
+ * wf_path_cease, which drops the frames that wait to be sent, and sends a DELBA. For another window it holds the TID
+ * again before the next pull.
  */
 #include <stdint.h>
 #include <stdio.h>
@@ -26,10 +27,9 @@ enum response { ACCEPTED, DECLINED, NONE };
 
 struct peer {
   enum phase phase;
-  uint16_t start;    /* the first number of the agreement */
-  uint16_t window;   /* its window, in frames */
-  uint8_t is_new;    /* 1 until the agreement has sent a frame */
-  uint8_t may_agree; /* 1 if the station may have an agreement */
+  uint16_t start;  /* the first number of the agreement */
+  uint16_t window; /* its window, in frames */
+  uint8_t is_new;  /* 1 until the agreement has sent a frame */
 };
 
 /* An exchange in the queue of the device. */
@@ -152,9 +152,8 @@ static int ask(struct driver *driver, uint16_t station) {
   if (!drained) return 1;
   response = send_request(driver);
   driver->responses[response]++;
-  if (response != DECLINED) peer->may_agree = 1;
   if (response == ACCEPTED) return begin(driver, station);
-  if (!peer->may_agree) return make_plain(driver, station);
+  if (response == DECLINED) return make_plain(driver, station);
   peer->phase = DELETING;
   return 1;
 }
@@ -166,26 +165,24 @@ static int stop(struct driver *driver, uint16_t station) {
   return wf_path_stop(&driver->path, station, &reply) == WF_OK;
 }
 
-/* Ends the agreement of a station that is stopped, as soon as no exchange is open. For another window the driver asks
- * again, and the hold returns the next number: nothing is pulled between wf_path_free_tid and wf_path_hold. */
+/* Ends the agreement of a station that is stopped, as soon as no exchange is open. */
 static int end_agreement(struct driver *driver, uint16_t station) {
   struct wf_reply reply = {0};
   int32_t code = wf_path_cease(&driver->path, station, TID, &reply);
   if (code) return code == WF_OPEN;
   driver->ended += reply.count;
   driver->peers[station].phase = DELETING;
-  if (wf_path_start(&driver->path, station, &reply)) return 0;
-  if (below(driver, 2)) return 1;
-  driver->resized++;
-  return make_plain(driver, station) && hold(driver, station);
+  return wf_path_start(&driver->path, station, &reply) == WF_OK;
 }
 
-/* Sends a DELBA. After its Ack the TID is plain. */
+/* Sends a DELBA. After its Ack the TID is plain, or is held at once for an agreement with another window. */
 static int send_delba(struct driver *driver, uint16_t station) {
   if (is_lost(driver)) return 1;
   driver->deleted++;
-  driver->peers[station].may_agree = 0;
-  return make_plain(driver, station);
+  if (!make_plain(driver, station)) return 0;
+  if (below(driver, 2)) return 1;
+  driver->resized++;
+  return hold(driver, station);
 }
 
 static int negotiate(struct driver *driver, uint16_t station) {
@@ -247,8 +244,8 @@ int main(void) {
   account_print(&driver.account, "addba");
   printf("addba: %u frames went alone, and %u aggregates; %u requests were accepted, %u declined, %u without a response\n",
          driver.alone, driver.aggregates, driver.responses[ACCEPTED], driver.responses[DECLINED], driver.responses[NONE]);
-  printf("addba: %lu frames were dropped as ended; %u requests were for another window, %u DELBAs were acknowledged\n",
-         (unsigned long)driver.ended, driver.resized, driver.deleted);
+  printf("addba: %lu frames were dropped as ended; %u DELBAs were acknowledged, and after %u the driver asked again\n",
+         (unsigned long)driver.ended, driver.deleted, driver.resized);
   wf_path_free(&driver.path);
   return !all;
 }
