@@ -23,9 +23,10 @@ def are_numbers(words: list[str], wanted: list[tuple[str, int, int]]) -> bool:
 
 
 def without_option(word: str, rest: list[str]) -> list[str]:
-    """Returns the words after a word without the last one, if that may follow its numbers: `soak SEED CALLS [device | agreements]`."""
+    """Returns the words after a word without the last one, if that may follow its numbers, as in `soak SEED CALLS [device]`."""
     forms = [form for form in texts.program_forms() if form.split()[0] == word]
-    known = [option for form in forms for options in re.findall(r"\[([a-z |]+)\]", form) for option in options.split(" | ")]
+    options = [found for form in forms for found in re.findall(r"\[([a-z |]+)\]", form)]
+    known = [option for one in options for option in one.split(" | ")]
     return rest[:-1] if rest[-1:] and rest[-1] in known else rest
 
 

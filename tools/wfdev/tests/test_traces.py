@@ -118,9 +118,11 @@ class Pairs(unittest.TestCase):
 
 def replies_of(kind: str) -> set[str]:
     """Returns the kinds of the answers to a kind of call."""
-    names = "join leave rate tick enq pull arrive done sleep wake poll rx reap unsent giveup flush offload weight plain hold begin "
-    answers = "joined left set now accepted send released done slept woken polled charged reaped marked marked flushed joined set "
-    known = dict(zip(f"{names}free cease".split(), f"{answers}joined held begun freed ceased".split(), strict=True))
+    names = "join leave rate tick enq pull arrive done sleep wake poll rx reap unsent giveup flush offload weight".split()
+    answers = "joined left set now accepted send released done slept woken polled charged reaped".split()
+    names += "plain hold begin free cease".split()
+    answers += "marked marked flushed joined set joined held begun freed ceased".split()
+    known = dict(zip(names, answers, strict=True))
     return {"ba", "ack"} if kind == "answer" else {known[kind]}
 
 

@@ -165,8 +165,8 @@ def made_trace(seed: int) -> str:
     draw = random.Random(seed)
     lines = [f"cell attempts={draw.randint(1, 3)} agg={draw.choice((1, 4, 64))}"]
     for number in range(draw.randint(1, 3)):
-        start = draw.randint(0, 4095)
+        start, window = draw.randint(0, 4095), draw.choice((1, 2, 8, 64, 65, 256))
         is_plain = draw.random() < 0.3
-        lines.append(f"plain {number} {start} 3" if is_plain else f"join {number} {draw.choice((1, 2, 8, 64, 65, 256))} {start} 3")
+        lines.append(f"plain {number} {start} 3" if is_plain else f"join {number} {window} {start} 3")
     lines += exchanges(draw, draw.randint(1, 5))
     return "\n".join([*lines, draw.choice(("end", "end", "stop"))]) + "\n"
