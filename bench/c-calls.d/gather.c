@@ -26,7 +26,7 @@ static int open_driver(struct driver *driver) {
   if (wf_path_reserve(&driver->path, STATIONS * PACKETS)) return 0;
   for (station = 0; station < STATIONS; station++) {
     if (wf_path_join(&driver->path, station, 64, 0, 3, 1, &driver->reply)) return 0;
-    if (wf_path_rate_vht(&driver->path, station, (uint8_t)(4 * station), 80, 0, 1, &driver->reply)) return 0;
+    if (wf_path_rate_vht(&driver->path, station, (uint8_t)(4 + 2 * station), 80, 0, 1, &driver->reply)) return 0;
   }
   return 1;
 }

@@ -21,6 +21,8 @@ SCRIPT = Script("c-calls", paths.BENCH)
 PAGE = paths.DOCS / "generated" / "c-calls.md"
 DRIVERS = [paths.EXAMPLES / "c" / "driver.c", SCRIPT.folder / "gather.c"]
 PREFIX = "wf_path_"
+# The calls that each frame goes through, from its enqueue to its return.
+FRAME = ("enqueue_bare", "pull", "header", "done_bits", "reap")
 
 
 def counted(driver: Path, library: Path) -> callgrind.Profile:
@@ -42,13 +44,22 @@ def table(driver: Path, profile: callgrind.Profile) -> Iterator[str]:
     yield ""
 
 
+def per_frame(profile: callgrind.Profile) -> str:
+    """Returns the line that says what a frame takes in the driver that does not copy bodies."""
+    names = [PREFIX + name for name in FRAME]
+    frames, pulls = profile.calls_of(names[0]), profile.calls_of(names[1])
+    total = sum(profile.own[name] + profile.below[name] for name in names)
+    return f"A frame takes {total / frames:,.0f} instructions there over {', '.join(FRAME)}, in aggregates of {frames / pulls:.0f}.\n"
+
+
 def tables(library: Path) -> str:
     """Returns the tables, after a line that says what they were made with."""
     kind = "proved" if library == programs.LIBRARY else "unproved"
     lines = [f"The {kind} library of {origin.sources()},", f"by {origin.tools()}.\n"]
     for driver in DRIVERS:
-        lines += table(driver, counted(driver, library))
-    return "\n".join(lines)
+        profile = counted(driver, library)
+        lines += table(driver, profile)
+    return "\n".join([*lines, per_frame(profile)])
 
 
 def main(words: Sequence[str] | None = None) -> int:
