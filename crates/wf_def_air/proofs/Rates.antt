@@ -1,6 +1,6 @@
 -- Proves worked rates and durations by computation. Each row was worked out from the standards' tables.
 use Rattle.std.proofs.Common.{◌≡◌, refl, true, false}
-use Rattle.wf_def_air.specs.Airtime.{Ht, Vht, He, is_rate, bits, kbps, data_time}
+use Rattle.wf_def_air.specs.Airtime.{Ht, Vht, He, Ofdm, Dsss, is_rate, is_allowed, bits, kbps, data_time}
 
 -- ---- which rates there are
 
@@ -65,3 +65,52 @@ rounded_up_of_he = refl
 
 pub fewer_bits_of_he : data_time (He 11 80 800 1) 6122 ≡ 139
 fewer_bits_of_he = refl
+
+-- ---- rates without HT
+
+pub seven_is_no_rate : is_rate (Ofdm 7) ≡ false
+seven_is_no_rate = refl
+
+pub three_half_is_no_rate : is_rate (Dsss 3) ≡ false
+three_half_is_no_rate = refl
+
+pub ofdm_not_allowed : is_allowed 0 (Ofdm 54) ≡ false
+ofdm_not_allowed = refl
+
+pub ofdm_allowed : is_allowed 1 (Ofdm 54) ≡ true
+ofdm_allowed = refl
+
+pub dsss_not_allowed : is_allowed 1 (Dsss 22) ≡ false
+dsss_not_allowed = refl
+
+pub he_allowed : is_allowed 0 (He 0 20 800 1) ≡ true
+he_allowed = refl
+
+pub bits_of_six : bits (Ofdm 6) ≡ 24
+bits_of_six = refl
+
+pub bits_of_fifty_four : bits (Ofdm 54) ≡ 216
+bits_of_fifty_four = refl
+
+pub kbps_of_nine : kbps (Ofdm 9) ≡ 9000
+kbps_of_nine = refl
+
+pub kbps_of_eleven_halves : kbps (Dsss 11) ≡ 5500
+kbps_of_eleven_halves = refl
+
+-- A frame of 2304 octets has 2334, and with the greatest encryption and a delimiter 2370.
+pub longest_at_six : data_time (Ofdm 6) 2370 ≡ 3184
+longest_at_six = refl
+
+pub longest_at_fifty_four : data_time (Ofdm 54) 2334 ≡ 368
+longest_at_fifty_four = refl
+
+pub longest_at_one : data_time (Dsss 2) 2370 ≡ 19152
+longest_at_one = refl
+
+pub longest_at_eleven : data_time (Dsss 22) 2334 ≡ 1890
+longest_at_eleven = refl
+
+-- 18,672 bits at 5.5 Mbit/s take 3394.9 microseconds, and the last counts whole.
+pub rounded_up_of_dsss : data_time (Dsss 11) 2334 ≡ 3587
+rounded_up_of_dsss = refl

@@ -9,8 +9,8 @@ use Rattle.std.proofs.Math.Nat.{div-zero, div-mul-le_self, mul-le-mul_left}
 use Rattle.wf_def_lists.specs.Table.{ceil_div, has}
 use Rattle.wf_def_lists.specs.Lengths.{greatest_protected}
 use Rattle.wf_def_lists.specs.Bounds.{greatest_mcs, greatest_ampdu}
-use Rattle.wf_def_air.specs.Airtime.{Rate, Ht, Vht, He, is_rate, are_streams, is_wide_width, greatest_vht_mcs, greatest_he_mcs, streams, modulation, bits_of_twelve, carriers_of_312, carriers_of_78, bits, symbol_tenths, kbps, vht_encoders, encoder_bits, encoders, symbols, training_fields, training_tenths, whole_symbols, payload_tenths, data_time}
-use Rattle.wf_def_air.specs.Fit.{subframe_octets}
+use Rattle.wf_def_air.specs.Airtime.{Rate, Ht, Vht, He, Ofdm, Dsss, is_rate, ofdm_rates, dsss_rates, are_streams, is_wide_width, greatest_vht_mcs, greatest_he_mcs, streams, modulation, bits_of_twelve, carriers_of_312, carriers_of_78, bits, symbol_tenths, kbps, vht_encoders, encoder_bits, encoders, octet_bits, service_and_tails, symbols, training_fields, training_tenths, whole_symbols, payload_tenths, data_time}
+use Rattle.wf_def_air.specs.Fit.{subframe_octets, alone_at}
 
 -- ---- bounds on the numbers of a list
 
@@ -102,14 +102,30 @@ abbrev pub least_symbol : Rate → ℕ
 least_symbol (Ht mcs mhz short) = 36
 least_symbol (Vht mcs mhz short n) = 36
 least_symbol (He mcs mhz guard n) = 136
+least_symbol (Ofdm mbps) = 40
+least_symbol (Dsss half) = 10
 
--- Bounds on the parts of a rate: its streams, its index in the table of modulations, and its times.
+-- The speed of a rate of OFDM or DSSS is between the least and the greatest of its table.
+abbrev pub HasSpeed : Rate → Type 0
+HasSpeed (Ofdm mbps) = (6 ≤ mbps) × (mbps ≤ 54)
+HasSpeed (Dsss half) = (2 ≤ half) × (half ≤ 22)
+HasSpeed r = Unit {0}
+
+ofdm_speed : (mbps : ℕ) → has ofdm_rates mbps ≡ true → (6 ≤ mbps) × (mbps ≤ 54)
+ofdm_speed mbps h = (grind (arith, nat_tests), grind (arith, nat_tests))
+
+dsss_speed : (half : ℕ) → has dsss_rates half ≡ true → (2 ≤ half) × (half ≤ 22)
+dsss_speed half h = (grind (arith, nat_tests), grind (arith, nat_tests))
+
+-- Bounds on the parts of a rate: its streams, its index in the table of modulations, its times, and its
+-- speed.
 pub record IsInRange (r : Rate) : Type 0 where
   pub streamed : (1 ≤ streams r) × (streams r ≤ 8)
   pub coded : modulation r < 12
   pub least : least_symbol r ≤ symbol_tenths r
   pub guarded : symbol_tenths r ≤ 160
   pub trained : training_tenths r ≤ 160
+  pub speed : HasSpeed r
 
 pub rate_in_range : (r : Rate) → is_rate r ≡ true → IsInRange r
 rate_in_range (Ht mcs mhz short) h =
@@ -121,6 +137,7 @@ rate_in_range (Ht mcs mhz short) h =
       least = (symbol_between short).0;
       guarded = symbol_if short;
       trained = omega arith;
+      speed = tt;
     }
 rate_in_range (Vht mcs mhz short n) h =
     let first = and_parts (nat_le mcs greatest_vht_mcs) _ h in
@@ -132,6 +149,7 @@ rate_in_range (Vht mcs mhz short n) h =
       least = (symbol_between short).0;
       guarded = symbol_if short;
       trained = omega arith;
+      speed = tt;
     }
 rate_in_range (He mcs mhz guard n) h =
     let first = and_parts (nat_le mcs greatest_he_mcs) _ h in
@@ -145,10 +163,35 @@ rate_in_range (He mcs mhz guard n) h =
       least = omega (arith, long);
       guarded = omega (arith, short);
       trained = training_most (guard == 3200) (guard / 100) short;
+      speed = tt;
     }
+rate_in_range (Ofdm mbps) h = record {
+  streamed = (omega arith, omega arith);
+  coded = omega arith;
+  least = omega arith;
+  guarded = omega arith;
+  trained = omega arith;
+  speed = ofdm_speed mbps h;
+}
+rate_in_range (Dsss half) h = record {
+  streamed = (omega arith, omega arith);
+  coded = omega arith;
+  least = omega arith;
+  guarded = omega arith;
+  trained = omega arith;
+  speed = dsss_speed half h;
+}
+
+-- A lower bound on the bits in a symbol of HT and VHT, of HE, of OFDM and of DSSS.
+abbrev pub least_bits : Rate → ℕ
+least_bits (Ht mcs mhz short) = 26
+least_bits (Vht mcs mhz short n) = 26
+least_bits (He mcs mhz guard n) = 117
+least_bits (Ofdm mbps) = 24
+least_bits (Dsss half) = 2
 
 -- The bits in a symbol of any rate.
-pub bits_between : (r : Rate) → IsInRange r → (26 ≤ bits r) × (bits r ≤ 130666)
+pub bits_between : (r : Rate) → IsInRange r → (least_bits r ≤ bits r) × (bits r ≤ 130666)
 bits_between (Ht mcs mhz short) h =
     let between = some_bits (carriers_of_312 mhz) (1 + mcs / 8) (slice_index bits_of_twelve (mcs % 8)) 52 468
     (some_carriers mhz) h.streamed (twelve_between (mcs % 8) h.coded) in
@@ -161,13 +204,10 @@ bits_between (He mcs mhz guard n) h =
     let between = some_bits (carriers_of_78 mhz) n (slice_index bits_of_twelve mcs) 234 1960
     (many_carriers mhz) h.streamed (twelve_between mcs h.coded) in
     (omega (arith, between.0), between.1)
+bits_between (Ofdm mbps) h = (omega (arith, h.speed.0), omega (arith, h.speed.1))
+bits_between (Dsss half) h = (h.speed.0, omega (arith, h.speed.1))
 
--- The bits in a symbol of HE, and of VHT.
-he_bits : (mcs mhz guard n : ℕ) → IsInRange (He mcs mhz guard n) → 117 ≤ bits (He mcs mhz guard n)
-he_bits mcs mhz guard n h =
-    (some_bits (carriers_of_78 mhz) n (slice_index bits_of_twelve mcs) 234 1960
-    (many_carriers mhz) h.streamed (twelve_between mcs h.coded)).0
-
+-- The bits in a symbol of VHT.
 vht_bits : (mcs mhz : ℕ) (short : Bool) (n : ℕ) → IsInRange (Vht mcs mhz short n) →
     bits (Vht mcs mhz short n) ≤ 31200
 vht_bits mcs mhz short n h =
@@ -207,7 +247,13 @@ kbps_of b t few many short long bit time some low high =
     quotient_between (10000 * b) t 6500 9607794 (omega (arith, some, time.0))
     (omega (arith, time.1, bit.0, low)) (omega (arith, time.0, bit.1, high))
 
-pub kbps_between : (r : Rate) → IsInRange r → (6500 ≤ kbps r) × (kbps r ≤ 9607794)
+-- A lower bound on a rate in kbit/s.
+abbrev pub slowest_kbps : Rate → ℕ
+slowest_kbps (Ofdm mbps) = 6000
+slowest_kbps (Dsss half) = 1000
+slowest_kbps r = 6500
+
+pub kbps_between : (r : Rate) → IsInRange r → (slowest_kbps r ≤ kbps r) × (kbps r ≤ 9607794)
 kbps_between (Ht mcs mhz short) h =
     kbps_of (bits (Ht mcs mhz short)) (if short then 36 else 40) 26 31200 36 40
     (some_bits (carriers_of_312 mhz) (1 + mcs / 8) (slice_index bits_of_twelve (mcs % 8)) 52 468
@@ -223,6 +269,8 @@ kbps_between (He mcs mhz guard n) h =
     (some_bits (carriers_of_78 mhz) n (slice_index bits_of_twelve mcs) 234 1960
     (many_carriers mhz) h.streamed (twelve_between mcs h.coded))
     (h.least, h.guarded) (omega arith) (omega arith) (omega arith)
+kbps_between (Ofdm mbps) h = (omega (arith, h.speed.0), omega (arith, h.speed.1))
+kbps_between (Dsss half) h = (omega (arith, h.speed.0), omega (arith, h.speed.1))
 
 -- ---- symbols
 
@@ -241,25 +289,29 @@ pub few_encoders : (r : Rate) → IsInRange r → encoders r ≤ 15
 few_encoders (Ht mcs mhz short) h = omega arith
 few_encoders (Vht mcs mhz short n) h = few_vht_encoders mcs mhz n _ (vht_bits mcs mhz short n h)
 few_encoders (He mcs mhz guard n) h = omega arith
+few_encoders (Ofdm mbps) h = omega arith
+few_encoders (Dsss half) h = omega arith
 
 -- The octets take at most `most` symbols if that many symbols of `least` bits hold them, and a symbol has at
 -- least that many.
-few_symbols_of : (r : Rate) (octets most least : ℕ) → IsInRange r → 0 < least → least ≤ bits r →
-    8 * octets + 106 ≤ most * least → symbols r octets ≤ most
-few_symbols_of r octets most least h some enough k =
-    let tails : encoders r ≤ 15 = few_encoders r h in
-    ceil_most (8 * octets + (16 + 6 * encoders r)) (bits r) most least some enough (omega (arith, tails, k))
+few_symbols_of : (r : Rate) (octets most least : ℕ) → 0 < least → least ≤ bits r →
+    octet_bits r * octets + service_and_tails r ≤ most * least → symbols r octets ≤ most
+few_symbols_of r octets most least some enough k =
+    ceil_most (octet_bits r * octets + service_and_tails r) (bits r) most least some enough k
 
--- The octets take at most `most` symbols if that many symbols of 26 bits hold them.
-pub few_symbols : (r : Rate) (octets most : ℕ) → IsInRange r → 8 * octets + 106 ≤ most * 26 →
-    symbols r octets ≤ most
-few_symbols r octets most h k = few_symbols_of r octets most 26 h (omega arith) (bits_between r h).0 k
+-- The same for VHT, which has at most 15 encoders.
+few_vht_symbols : (mcs mhz : ℕ) (short : Bool) (n octets most least : ℕ) → IsInRange (Vht mcs mhz short n) →
+    0 < least → least ≤ bits (Vht mcs mhz short n) → 8 * octets + 106 ≤ most * least →
+    symbols (Vht mcs mhz short n) octets ≤ most
+few_vht_symbols mcs mhz short n octets most least h some enough k =
+    let tails : encoders (Vht mcs mhz short n) ≤ 15 = few_encoders (Vht mcs mhz short n) h in
+    few_symbols_of (Vht mcs mhz short n) octets most least some enough (omega (arith, tails, k))
 
 -- The same for HT, which has one encoder.
 few_ht_symbols : (mcs mhz : ℕ) (short : Bool) (octets most : ℕ) → IsInRange (Ht mcs mhz short) →
     8 * octets + 22 ≤ most * 26 → symbols (Ht mcs mhz short) octets ≤ most
 few_ht_symbols mcs mhz short octets most h k =
-    ceil_most (8 * octets + (16 + 6 * 1)) (bits (Ht mcs mhz short)) most 26 (omega arith)
+    few_symbols_of (Ht mcs mhz short) octets most 26 (omega arith)
     (bits_between (Ht mcs mhz short) h).0 (omega (arith, k))
 
 -- Two or more streams of VHT have at least 52 bits in a symbol.
@@ -275,8 +327,20 @@ two_streams mcs mhz short n h more =
 few_he_symbols : (mcs mhz guard n octets most : ℕ) → IsInRange (He mcs mhz guard n) →
     8 * octets + 22 ≤ most * 117 → symbols (He mcs mhz guard n) octets ≤ most
 few_he_symbols mcs mhz guard n octets most h k =
-    ceil_most (8 * octets + (16 + 6 * 1)) (bits (He mcs mhz guard n)) most 117 (omega arith)
-    (he_bits mcs mhz guard n h) (omega (arith, k))
+    few_symbols_of (He mcs mhz guard n) octets most 117 (omega arith)
+    (bits_between (He mcs mhz guard n) h).0 (omega (arith, k))
+
+-- The same for OFDM, which has at least 24 bits in a symbol, and for DSSS, which has at least one bit in a
+-- microsecond.
+few_ofdm_symbols : (mbps octets most : ℕ) → IsInRange (Ofdm mbps) → 8 * octets + 22 ≤ most * 24 →
+    symbols (Ofdm mbps) octets ≤ most
+few_ofdm_symbols mbps octets most h k =
+    few_symbols_of (Ofdm mbps) octets most 24 (omega arith) (bits_between (Ofdm mbps) h).0 (omega (arith, k))
+
+few_dsss_symbols : (half octets most : ℕ) → IsInRange (Dsss half) → 8 * octets ≤ most →
+    symbols (Dsss half) octets ≤ most
+few_dsss_symbols half octets most h k =
+    few_symbols_of (Dsss half) octets most 2 (omega arith) (bits_between (Dsss half) h).0 (omega (arith, k))
 
 -- ---- times
 
@@ -297,25 +361,26 @@ payload_most short n most h =
 
 -- Data takes at most `longest` microseconds, if `most` symbols of 26 bits hold the octets at a rate of HT
 -- or VHT, `he_most` symbols of 117 bits hold them at a rate of HE, and `longest` is enough for the preamble
--- and these symbols.
-pub time_most : (r : Rate) (octets most he_most longest : ℕ) → IsInRange r → 8 * octets + 106 ≤ most * 26 →
+-- and these symbols, and at a rate of DSSS for a microsecond a bit.
+time_most : (r : Rate) (octets most he_most longest : ℕ) → IsInRange r → 8 * octets + 106 ≤ most * 24 →
     8 * octets + 22 ≤ he_most * 117 → 68 + 4 * most ≤ longest → 164 + 16 * he_most ≤ longest →
-    data_time r octets ≤ longest
-time_most (Ht mcs mhz short) octets most he_most longest h k l m n' =
+    192 + 8 * octets ≤ longest → data_time r octets ≤ longest
+time_most (Ht mcs mhz short) octets most he_most longest h k l m n' o =
     let few : symbols (Ht mcs mhz short) octets ≤ most =
-    few_symbols (Ht mcs mhz short) octets most h k in
+    few_ht_symbols mcs mhz short octets most h (omega (arith, k)) in
     let payload : payload_tenths (Ht mcs mhz short) octets ≤ 40 * most =
     payload_most short (symbols (Ht mcs mhz short) octets) most few in
     let fields = few_in_preamble (1 + mcs / 8) h.streamed in
     omega (arith, payload, fields, m)
-time_most (Vht mcs mhz short n) octets most he_most longest h k l m n' =
+time_most (Vht mcs mhz short n) octets most he_most longest h k l m n' o =
     let few : symbols (Vht mcs mhz short n) octets ≤ most =
-    few_symbols (Vht mcs mhz short n) octets most h k in
+    few_vht_symbols mcs mhz short n octets most 26 h (omega arith) (bits_between (Vht mcs mhz short n) h).0
+    (omega (arith, k)) in
     let payload : payload_tenths (Vht mcs mhz short n) octets ≤ 40 * most =
     payload_most short (symbols (Vht mcs mhz short n) octets) most few in
     let fields : slice_index training_fields (n - 1) ≤ 8 = few_in_preamble n h.streamed in
     omega (arith, payload, fields, m)
-time_most (He mcs mhz guard n) octets most he_most longest h k l m n' =
+time_most (He mcs mhz guard n) octets most he_most longest h k l m n' o =
     let few : symbols (He mcs mhz guard n) octets ≤ he_most =
     few_he_symbols mcs mhz guard n octets he_most h l in
     let payload : payload_tenths (He mcs mhz guard n) octets ≤ 160 * he_most =
@@ -326,6 +391,13 @@ time_most (He mcs mhz guard n) octets most he_most longest h k l m n' =
     mul-le (training_tenths (He mcs mhz guard n)) (slice_index training_fields (n - 1)) 160 8
     h.trained fields in
     omega (arith, payload, training, n')
+time_most (Ofdm mbps) octets most he_most longest h k l m n' o =
+    let few : symbols (Ofdm mbps) octets ≤ most = few_ofdm_symbols mbps octets most h (omega (arith, k)) in
+    omega (arith, few, m)
+time_most (Dsss half) octets most he_most longest h k l m n' o =
+    let few : symbols (Dsss half) octets ≤ 8 * octets =
+    few_dsss_symbols half octets (8 * octets) h (omega arith) in
+    omega (arith, few, o)
 
 -- The time of a single frame of VHT with n streams: one stream has one training field, and more streams have
 -- twice the bits in a symbol.
@@ -334,14 +406,15 @@ single_vht : (mcs mhz : ℕ) (short : Bool) (n octets : ℕ) → IsInRange (Vht 
 single_vht mcs mhz short zero octets h k = absurd (omega (arith, h.streamed.0))
 single_vht mcs mhz short (suc zero) octets h k =
     let few : symbols (Vht mcs mhz short 1) octets ≤ 734 =
-    few_symbols (Vht mcs mhz short 1) octets 734 h (omega (arith, k)) in
+    few_vht_symbols mcs mhz short 1 octets 734 26 h (omega arith) (bits_between (Vht mcs mhz short 1) h).0
+    (omega (arith, k)) in
     let payload : payload_tenths (Vht mcs mhz short 1) octets ≤ 40 * 734 =
     payload_most short (symbols (Vht mcs mhz short 1) octets) 734 few in
     omega (arith, payload)
 single_vht mcs mhz short (suc (suc n)) octets h k =
     let streams : ℕ = suc (suc n) in
     let few : symbols (Vht mcs mhz short streams) octets ≤ 367 =
-    few_symbols_of (Vht mcs mhz short streams) octets 367 52 h (omega arith)
+    few_vht_symbols mcs mhz short streams octets 367 52 h (omega arith)
     (two_streams mcs mhz short streams h (omega arith)) (omega (arith, k)) in
     let payload : payload_tenths (Vht mcs mhz short streams) octets ≤ 40 * 367 =
     payload_most short (symbols (Vht mcs mhz short streams) octets) 367 few in
@@ -362,9 +435,9 @@ single_he mcs mhz guard n octets h k =
     h.trained fields in
     omega (arith, payload, training)
 
--- A single frame, with its encryption, takes at most 3000 microseconds.
+-- A single frame, with its encryption, takes at most the time that it may take alone.
 pub single_time : (r : Rate) (octets : ℕ) → is_rate r ≡ true → octets ≤ subframe_octets greatest_protected →
-    data_time r octets ≤ 3000
+    data_time r octets ≤ alone_at r
 single_time (Ht mcs mhz short) octets h k =
     let is = rate_in_range (Ht mcs mhz short) h in
     let few : symbols (Ht mcs mhz short) octets ≤ 731 =
@@ -377,24 +450,34 @@ single_time (Vht mcs mhz short n) octets h k =
     single_vht mcs mhz short n octets (rate_in_range (Vht mcs mhz short n) h) k
 single_time (He mcs mhz guard n) octets h k = single_he mcs mhz guard n octets
     (rate_in_range (He mcs mhz guard n) h) k
+single_time (Ofdm mbps) octets h k =
+    let few : symbols (Ofdm mbps) octets ≤ 791 =
+    few_ofdm_symbols mbps octets 791 (rate_in_range (Ofdm mbps) h) (omega (arith, k)) in
+    omega (arith, few)
+single_time (Dsss half) octets h k =
+    let few : symbols (Dsss half) octets ≤ 18960 =
+    few_dsss_symbols half octets 18960 (rate_in_range (Dsss half) h) (omega (arith, k)) in
+    omega (arith, few)
 
--- The longest aggregate takes at most 8,100,000 microseconds.
+-- The octets of the longest aggregate take at most 52,100,000 microseconds, which no exchange takes.
 pub longest_time : (r : Rate) (octets : ℕ) → is_rate r ≡ true → octets ≤ greatest_ampdu →
-    data_time r octets ≤ 8100000
+    data_time r octets ≤ 52100000
 longest_time r octets h k =
-    time_most r octets 2000200 444490 8100000 (rate_in_range r h) (omega (arith, k)) (omega (arith, k))
-    (omega arith) (omega arith)
+    time_most r octets 2166900 444490 52100000 (rate_in_range r h) (omega (arith, k)) (omega (arith, k))
+    (omega arith) (omega arith) (omega (arith, k))
 
 -- More octets never take less time.
 pub time_less : (r : Rate) (a b : ℕ) → a ≤ b → data_time r a ≤ data_time r b
 time_less r a b h = go r
   where
-    fewer : (r : Rate) → symbols r a ≤ symbols r b
-    fewer r = div_less (8 * a + (16 + 6 * encoders r) + (bits r - 1))
-        (8 * b + (16 + 6 * encoders r) + (bits r - 1)) (bits r) (omega (arith, h))
-
     times : (k x y : ℕ) → x ≤ y → k * x ≤ k * y
     times k x y le = mul-le-mul_left k le
+
+    fewer : (r : Rate) → symbols r a ≤ symbols r b
+    fewer r =
+        let more : octet_bits r * a ≤ octet_bits r * b = times (octet_bits r) a b h in
+        div_less (octet_bits r * a + service_and_tails r + (bits r - 1))
+        (octet_bits r * b + service_and_tails r + (bits r - 1)) (bits r) (omega (arith, more))
 
     go : (r : Rate) → data_time r a ≤ data_time r b
     go (Ht mcs mhz short) =
@@ -405,4 +488,10 @@ time_less r a b h = go r
         omega (arith, time)
     go (He mcs mhz guard n) =
         let time = times (symbol_tenths (He mcs mhz guard n)) _ _ (fewer (He mcs mhz guard n)) in
+        omega (arith, time)
+    go (Ofdm mbps) =
+        let time = times (symbol_tenths (Ofdm mbps)) _ _ (fewer (Ofdm mbps)) in
+        omega (arith, time)
+    go (Dsss half) =
+        let time = times (symbol_tenths (Dsss half)) _ _ (fewer (Dsss half)) in
         omega (arith, time)

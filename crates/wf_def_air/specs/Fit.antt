@@ -1,8 +1,8 @@
 -- Defines which frames fit one aggregate (A-MPDU): IEEE 802.11-2012, 8.6.1 (format and padding of
 -- subframes) and 9.12.2 (length limit).
-use Rattle.std.specs.Prelude.{ℕ, ◌+◌, ◌*◌, ◌-◌, ◌^◌, nat_le, max, Bool, ◌&&◌, List, [], ◌∷◌, Option, unwrap_or, if◌then◌else◌, length}
+use Rattle.std.specs.Prelude.{ℕ, ◌+◌, ◌*◌, ◌-◌, ◌^◌, ◌==◌, nat_le, max, Bool, ◌&&◌, List, [], ◌∷◌, Option, unwrap_or, if◌then◌else◌, length}
 use Rattle.wf_def_lists.specs.Table.{ceil_div}
-use Rattle.wf_def_air.specs.Airtime.{Rate, Ht, Vht, He, check_octets, data_time}
+use Rattle.wf_def_air.specs.Airtime.{Rate, Vht, He, legacy_of, check_octets, data_time}
 
 -- The length of the delimiter before an MPDU, in octets (8.6.1).
 abbrev pub delimiter_octets : ℕ
@@ -35,19 +35,19 @@ aggregate_octets (len ∷ []) = subframe_octets len
 aggregate_octets (len ∷ next ∷ lens) = padded (subframe_octets len) + aggregate_octets (next ∷ lens)
 
 -- Returns the octets of frames that are sent without an agreement, from the lengths of their bodies: one
--- frame. At a rate of HT it is no aggregate and has no delimiter; at VHT and HE each frame is in an
--- aggregate.
+-- frame. At VHT and HE each frame is in an aggregate; at all other rates it has no delimiter.
 abbrev pub plain_octets : Rate → List ℕ → ℕ
-plain_octets (Ht mcs mhz short) lens = aggregate_octets lens - delimiter_octets
-plain_octets rate lens = aggregate_octets lens
+plain_octets (Vht mcs mhz short n) lens = aggregate_octets lens
+plain_octets (He mcs mhz guard n) lens = aggregate_octets lens
+plain_octets rate lens = aggregate_octets lens - delimiter_octets
 
 -- Returns the number to which a station's maximum A-MPDU length exponent, 0 to 3, is added: 13 at a rate of
 -- HT (8.4.2.58.3). A receiver of VHT or HE states 0 to 7; this project's own rule maps 0 to 3 to 4 to 7
--- there, so the number is 17.
+-- there, so the number is 17. At OFDM and DSSS it is that of HT, and each single frame has fewer octets.
 abbrev pub least_exponent : Rate → ℕ
-least_exponent (Ht mcs mhz short) = 13
 least_exponent (Vht mcs mhz short n) = 17
 least_exponent (He mcs mhz guard n) = 17
+least_exponent rate = 13
 
 -- Returns the greatest length of an aggregate in octets, at a rate and for a receiver's exponent.
 abbrev pub octets_of_exponent : Rate → ℕ → ℕ
@@ -56,18 +56,25 @@ octets_of_exponent rate exponent = 2 ^ (least_exponent rate + exponent) - 1
 -- Returns the greatest length of an aggregate in octets, at a rate, for a receiver's exponent and for the
 -- greatest length that was stated for its aggregates of VHT and HE, if one was.
 abbrev pub most_octets : Rate → ℕ → Option ℕ → ℕ
-most_octets (Ht mcs mhz short) exponent stated = octets_of_exponent (Ht mcs mhz short) exponent
-most_octets rate exponent stated = unwrap_or stated (octets_of_exponent rate exponent)
+most_octets (Vht mcs mhz short n) exponent stated =
+    unwrap_or stated (octets_of_exponent (Vht mcs mhz short n) exponent)
+most_octets (He mcs mhz guard n) exponent stated =
+    unwrap_or stated (octets_of_exponent (He mcs mhz guard n) exponent)
+most_octets rate exponent stated = octets_of_exponent rate exponent
 
--- The data time that a frame alone may take whatever the limit of the aggregate is, in microseconds: at every
--- rate the greatest body fits it.
-abbrev pub longest_alone : ℕ
-longest_alone = 3000
+-- Returns the data time that a frame alone may take whatever the limit of the aggregate is, in microseconds,
+-- by the setting `legacy`: at every rate that it allows the greatest body fits it.
+abbrev pub longest_alone : ℕ → ℕ
+longest_alone legacy = if legacy == 0 then 3000 else (if legacy == 1 then 3200 else 19200)
 
--- Returns the greatest data time of frames with these lengths in microseconds, if that of an aggregate is
--- `cap`.
-abbrev pub time_allowed : ℕ → List ℕ → ℕ
-time_allowed cap lens = if nat_le (length lens) 1 then max cap longest_alone else cap
+-- Returns the same for a rate: that of the least setting which allows it.
+abbrev pub alone_at : Rate → ℕ
+alone_at r = longest_alone (legacy_of r)
+
+-- Returns the greatest data time of frames with these lengths at a rate in microseconds, if that of an
+-- aggregate is `cap`.
+abbrev pub time_allowed : Rate → ℕ → List ℕ → ℕ
+time_allowed r cap lens = if nat_le (length lens) 1 then max cap (alone_at r) else cap
 
 -- Returns whether frames with bodies of these lengths, with their encryption, fit one aggregate: there are at
 -- most `most` of them, the aggregate has at most `octets`, and its data takes at most `cap` microseconds.
@@ -75,4 +82,4 @@ abbrev pub fits : Rate → ℕ → ℕ → ℕ → List ℕ → Bool
 fits rate octets most cap lens =
     nat_le (length lens) most
     && (nat_le (aggregate_octets lens) octets
-    && nat_le (data_time rate (aggregate_octets lens)) (time_allowed cap lens))
+    && nat_le (data_time rate (aggregate_octets lens)) (time_allowed rate cap lens))

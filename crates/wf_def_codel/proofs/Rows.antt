@@ -3,7 +3,7 @@
 -- With 300,000 they are 300,000, 212,132, 173,205 and 150,000.
 use Rattle.std.specs.Prelude.{ℕ, zero, suc, ◌+◌, List, [], ◌∷◌, ◌++◌, map, Option, Some, None, true, false}
 use Rattle.std.proofs.Common.{◌≡◌, refl}
-use Rattle.wf_def_air.specs.Airtime.{Ht}
+use Rattle.wf_def_air.specs.Airtime.{Ht, Ofdm, Dsss}
 use Rattle.wf_def_codel.specs.Codel.{Item, Params, Codel, Dequeued, new_codel, step_of, dequeue, drops, drops_dropping, drops_plain, state_after, state_dropping, state_plain}
 use Rattle.wf_def_codel.specs.Parameters.{params_at}
 
@@ -28,6 +28,16 @@ of_mcs_1 = refl
 
 pub of_mcs_1_short : params_at (Ht 1 20 true) ≡ fast
 of_mcs_1_short = refl
+
+-- 9 and 12 Mbit/s of OFDM, and the fastest rate of DSSS, 11 Mbit/s.
+pub of_ofdm_9 : params_at (Ofdm 9) ≡ slow
+of_ofdm_9 = refl
+
+pub of_ofdm_12 : params_at (Ofdm 12) ≡ fast
+of_ofdm_12 = refl
+
+pub of_dsss_11 : params_at (Dsss 22) ≡ slow
+of_dsss_11 = refl
 
 -- The steps of an interval for these counts.
 abbrev pub steps : ℕ → List ℕ → List ℕ

@@ -10,7 +10,7 @@ use Rattle.std.proofs.lemmas.List.{map-append}
 use Rattle.std.proofs.Math.Nat.{le-max_left}
 use Rattle.wf_def_lists.specs.Table.{greatest_upto, longest_front}
 use Rattle.wf_def_air.specs.Airtime.{Rate, data_time}
-use Rattle.wf_def_air.specs.Fit.{most_octets, aggregate_octets, longest_alone, time_allowed, fits}
+use Rattle.wf_def_air.specs.Fit.{most_octets, aggregate_octets, alone_at, time_allowed, fits}
 use Rattle.wf_def_air.proofs.Times.{time_less}
 use Rattle.wf_def_world.specs.World.{World, Mpdu, station}
 use Rattle.wf_def_world.specs.Exchanges.{most_frames, fits_in, longest_fitting}
@@ -110,26 +110,26 @@ octets_front (x ∷ []) (y ∷ ys) = omega arith
 octets_front (x ∷ z ∷ xs) ys = omega (arith, octets_front (z ∷ xs) ys)
 
 -- an aggregate may take at least `cap`, and at most what a frame alone may take
-allowed_least : (cap : ℕ) (b : Bool) → cap ≤ (if b then max cap longest_alone else cap)
-allowed_least cap true = le-max_left cap longest_alone
-allowed_least cap false = omega arith
+allowed_least : (cap alone : ℕ) (b : Bool) → cap ≤ (if b then max cap alone else cap)
+allowed_least cap alone true = le-max_left cap alone
+allowed_least cap alone false = omega arith
 
-allowed_most : (cap : ℕ) (b : Bool) → (if b then max cap longest_alone else cap) ≤ max cap longest_alone
-allowed_most cap true = omega arith
-allowed_most cap false = le-max_left cap longest_alone
+allowed_most : (cap alone : ℕ) (b : Bool) → (if b then max cap alone else cap) ≤ max cap alone
+allowed_most cap alone true = omega arith
+allowed_most cap alone false = le-max_left cap alone
 
 -- what a prefix may take is at least what the whole list may take
-allowed_front : (cap : ℕ) (xs ys : List ℕ) → time_allowed cap (xs ++ ys) ≤ time_allowed cap xs
-allowed_front cap xs ys = elim (cases_Bool (nat_le (length xs) 1)) [
-  | inl few ↦ subst (λ (b : Bool). time_allowed cap (xs ++ ys) ≤ (if b then max cap longest_alone else cap))
-      (sym few) (allowed_most cap (nat_le (length (xs ++ ys)) 1))
+allowed_front : (r : Rate) (cap : ℕ) (xs ys : List ℕ) → time_allowed r cap (xs ++ ys) ≤ time_allowed r cap xs
+allowed_front r cap xs ys = elim (cases_Bool (nat_le (length xs) 1)) [
+  | inl few ↦ subst (λ (b : Bool). time_allowed r cap (xs ++ ys) ≤ (if b then max cap (alone_at r) else cap))
+      (sym few) (allowed_most cap (alone_at r) (nat_le (length (xs ++ ys)) 1))
   | inr more ↦ elim (cases_Bool (nat_le (length (xs ++ ys)) 1)) [
     | inl few ↦
         let fewer : nat_le (length xs) 1 ≡ true = le-leb (length xs) 1
         (omega (arith, leb-true (length (xs ++ ys)) 1 few, length-append xs ys)) in
         absurd (cc (fewer, more))
-    | inr still ↦ subst (λ (b : Bool). (if b then max cap longest_alone else cap) ≤ time_allowed cap xs)
-        (sym still) (allowed_least cap (nat_le (length xs) 1))
+    | inr still ↦ subst (λ (b : Bool). (if b then max cap (alone_at r) else cap) ≤ time_allowed r cap xs)
+        (sym still) (allowed_least cap (alone_at r) (nat_le (length xs) 1))
   ]
 ]
 
@@ -144,11 +144,11 @@ fits_closed r octets most cap xs ys h =
     (and_from (nat_le (aggregate_octets xs) octets) _
     (le-leb (aggregate_octets xs) octets
     (omega (arith, leb-true (aggregate_octets (xs ++ ys)) octets rest.0, fewer)))
-    (le-leb (data_time r (aggregate_octets xs)) (time_allowed cap xs)
+    (le-leb (data_time r (aggregate_octets xs)) (time_allowed r cap xs)
     (omega (
       arith,
-      leb-true (data_time r (aggregate_octets (xs ++ ys))) (time_allowed cap (xs ++ ys)) rest.1,
-      allowed_front cap xs ys,
+      leb-true (data_time r (aggregate_octets (xs ++ ys))) (time_allowed r cap (xs ++ ys)) rest.1,
+      allowed_front r cap xs ys,
       time_less r (aggregate_octets xs) (aggregate_octets (xs ++ ys)) fewer,
     ))))
 

@@ -3,6 +3,7 @@ mod Rehearsals
 mod Rows
 mod Texts
 mod NearMisses
+mod LegacyRows
 mod Charges
 pub mod Longest
 pub mod Fitting

@@ -13,7 +13,7 @@ use Rattle.wf_frame.specs.declared.notes.Limits.{Limits}
 use Rattle.wf_frame.specs.declared.notes.Part.{Part}
 use Rattle.wf_frame.specs.declared.notes.Part.TheVariants.{Mpdus, Batch, Plain, Request as Starts_at}
 use Rattle.wf_def_lists.specs.Table.{upto, at, has, longest_front}
-use Rattle.wf_def_air.specs.Airtime.{Rate, data_charge, plain_charge, request_charge, longest_answer}
+use Rattle.wf_def_air.specs.Airtime.{Rate, is_single, data_charge, plain_charge, request_charge, longest_answer}
 use Rattle.wf_def_air.specs.Fit.{aggregate_octets, plain_octets, most_octets, fits, longest_alone}
 use Rattle.wf_def_codel.specs.Codel.{Item}
 use Rattle.wf_def_rotation.specs.Rotation.{in_order, need_of, Picked, pick}
@@ -77,9 +77,10 @@ cap_of config Vo = if config.cap_vo == 0 then config.cap else config.cap_vo
 cap_of config c = config.cap
 
 -- the greatest computed charge of an exchange of a class, in microseconds: the greatest time of its data,
--- which a single frame may take in any class, the pause and the longest BlockAck
+-- which a single frame may take in any class, the pause and the longest answer
 abbrev pub longest_computed : Config → Class → ℕ
-longest_computed config c = max (cap_of config c) longest_alone + longest_answer config.answers
+longest_computed config c =
+    max (cap_of config c) (longest_alone config.legacy) + longest_answer config.answers config.legacy
 
 -- the lesser of a number and of a limit, if there is one
 abbrev pub limited : Option ℕ → ℕ → ℕ
@@ -93,10 +94,14 @@ bounds_of config c limits = record {
   air = limited limits.air (cap_of config c);
 }
 
--- the most frames of an aggregate: those of the pull's bounds, but one for a sleeping station, which asks for
--- one by a poll
+-- whether one exchange to a station sends at most one frame: the station sleeps, and asks for one by a poll,
+-- or its rate has no aggregates
+abbrev pub takes_one : Station → Bool
+takes_one x = x.asleep || is_single x.rate
+
+-- the most frames of an aggregate: those of the pull's bounds, but one for a station that takes one
 abbrev pub most_frames : World → ℕ → ℕ
-most_frames w s = if (station w s).asleep then 1 else w.bounds.frames
+most_frames w s = if takes_one (station w s) then 1 else w.bounds.frames
 
 -- the lengths of the bodies of an aggregate, each with its octets of encryption
 abbrev pub lens_of : ℕ → List Mpdu → List ℕ
@@ -172,13 +177,14 @@ pub record Prepared : Type 0 where
   pub content : Content
   pub charge : ℕ
 
--- the charge of an aggregate, in microseconds
+-- the charge of an aggregate, in microseconds: an Ack answers a frame without an agreement, and each frame at
+-- a rate without aggregates
 abbrev pub aggregate_charge : ℕ → ℕ → Aggregate → ℕ
 aggregate_charge s t f =
     let answers : ℕ = f.world.config.answers in
     let rate : Rate = (station f.world s).rate in
     let lens : List ℕ = lens_of f.world.config.overhead f.mpdus in
-    if is_plain f.world s t then plain_charge answers rate (plain_octets rate lens)
+    if is_plain f.world s t || is_single rate then plain_charge answers rate (plain_octets rate lens)
     else data_charge answers rate (aggregate_octets lens) (is_wide f.world s t)
 
 -- an aggregate, with its numbers flying

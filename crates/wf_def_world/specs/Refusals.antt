@@ -10,12 +10,12 @@ use Rattle.wf_frame.specs.declared.notes.Ask.TheVariants as call
 use Rattle.wf_frame.specs.declared.notes.Note.{Note}
 use Rattle.wf_frame.specs.declared.notes.Note.TheVariants.{Enqueue, Asked}
 use Rattle.wf_frame.specs.declared.notes.Refusal.{Refusal}
-use Rattle.wf_frame.specs.declared.notes.Refusal.TheVariants.{BadStation, BadWindow, BadStart, BadExponent, BadRate, BadTick, BadTid, BadAir, BadIndex, Live, NoStation, NoExchange, NoAnswer, Open, Room, Sleeping, Full, Idle, Answered, Arrived, Nothing, Asleep, Awake, Polled, Debt, BadWeight, Ahead, BadAmpdu, Stopped, Started, Marked, Offloaded, Agreed, Held, NotHeld, NotAgreed, Waits}
+use Rattle.wf_frame.specs.declared.notes.Refusal.TheVariants.{BadStation, BadWindow, BadStart, BadExponent, BadRate, BadTick, BadTid, BadAir, BadIndex, Live, NoStation, NoExchange, NoAnswer, Open, Room, Sleeping, Full, Idle, Answered, Arrived, Nothing, Asleep, Awake, Polled, Debt, BadWeight, Ahead, BadAmpdu, Stopped, Started, Marked, Offloaded, Agreed, Held, NotHeld, NotAgreed, Waits, Legacy}
 use Rattle.wf_def_lists.specs.Table.{has, upto}
 use Rattle.wf_def_lists.specs.Bounds.{greatest_window, greatest_start, greatest_exponent, greatest_weight, greatest_tid, greatest_tick, greatest_air, least_ampdu, greatest_ampdu, deepest_deficit}
-use Rattle.wf_def_air.specs.Airtime.{is_rate}
+use Rattle.wf_def_air.specs.Airtime.{is_single}
 use Rattle.wf_def_agreement.specs.Session.{waiting_numbers}
-use Rattle.wf_def_world.specs.Rates.{rate_asked}
+use Rattle.wf_def_world.specs.Rates.{rate_asked, is_rate_with}
 use Rattle.wf_def_world.specs.World.{World, Exchange, station, session, is_offloaded, is_agreed, is_held_back, is_live, inside, share, exchange, owed_by_all}
 use Rattle.wf_frame.specs.Classes.{same_class, lower_tid, upper_tid, class_of}
 use Rattle.wf_def_world.specs.FlowQueues.{frames_queued}
@@ -54,6 +54,10 @@ open_of_tid w s t = count_by (λ x. (x.station == s) && (x.tid == t)) w.opened
 -- how many numbers of TID t of a station wait to be sent
 abbrev pub numbers_waiting : World → ℕ → ℕ → ℕ
 numbers_waiting w s t = length (waiting_numbers (session w s t))
+
+-- whether some TID of a station has an agreement or is held
+abbrev pub is_any_agreed : World → ℕ → Bool
+is_any_agreed w s = list_any (λ t. is_agreed w s t || is_held_back w s t) (upto (1 + greatest_tid))
 
 -- the number of open exchanges of a class
 abbrev pub open_of_class : World → Class → ℕ
@@ -101,7 +105,8 @@ refusals_of w (call.Plain s start exponent weight) = (
     ∷ (is_live w s, Live) ∷ [])
 refusals_of w (Hold s t) = (
     (is_bad_station w s, BadStation) ∷ (nat_lt greatest_tid t, BadTid) ∷ (not (is_live w s), NoStation) ∷
-    (is_offloaded w s, Offloaded) ∷ (is_agreed w s t, Agreed) ∷ (is_held_back w s t, Held) ∷ [])
+    (is_offloaded w s, Offloaded) ∷ (is_agreed w s t, Agreed) ∷ (is_held_back w s t, Held) ∷
+    (is_single (station w s).rate, Legacy) ∷ [])
 refusals_of w (Begin s t window) = (
     (is_bad_station w s, BadStation) ∷ (nat_lt greatest_tid t, BadTid) ∷
     (not (is_within 1 greatest_window window), BadWindow) ∷ (not (is_live w s), NoStation) ∷
@@ -117,8 +122,8 @@ refusals_of w (Leave s) = (
     (is_bad_station w s, BadStation) ∷ (not (is_live w s), NoStation) ∷
     (nat_lt 0 (open_of_station w s), Open (open_of_station w s)) ∷ [])
 refusals_of w (Rate s rate) = (
-    (is_bad_station w s, BadStation) ∷ (not (is_rate (rate_asked rate)), BadRate)
-    ∷ (not (is_live w s), NoStation) ∷ [])
+    (is_bad_station w s, BadStation) ∷ (not (is_rate_with w.config.legacy (rate_asked rate)), BadRate)
+    ∷ (not (is_live w s), NoStation) ∷ (is_single (rate_asked rate) && is_any_agreed w s, Agreed) ∷ [])
 refusals_of w (Tick by) = ((nat_lt greatest_tick by, BadTick) ∷ [])
 refusals_of w (Pull c limits) = (
     (nat_le w.config.inflight (open_of_class w c), Full (open_of_class w c)) ∷
