@@ -3,7 +3,7 @@
 use Rattle.std.proofs.Common.{◌≡◌, ◌∙◌, ◌↔◌, ℕ, zero, suc, ◌<◌, ◌≤◌, nat_le, Bool, true, false, cond, not, ◌&&◌, List, [], ◌∷◌, get_or, length, None, Some, find, refl, ap, lit<, arith}
 use Rattle.wf_frame.specs.declared.settings.Config.{Config}
 use Rattle.wf_frame.specs.declared.settings.Field.{Field}
-use Rattle.wf_frame.specs.declared.settings.Field.TheVariants.{Stations, Flows, Limit, Room, FlowQuantum, Quantum, Inflight, Attempts, Agg, Cap, Sleeping, Calls, Charge, Debt, AqlTotal, KeepOrder, CodelReset, Aql, Pending, Overhead, CapVi, CapVo, Answers, Credits}
+use Rattle.wf_frame.specs.declared.settings.Field.TheVariants.{Stations, Flows, Limit, Room, FlowQuantum, Quantum, Inflight, Attempts, Agg, Cap, Sleeping, Calls, Charge, Debt, AqlTotal, KeepOrder, CodelReset, Aql, Pending, Overhead, CapVi, CapVo, Answers, Credits, Legacy}
 use Rattle.wf_frame.specs.Settings.{fields, lowest_of, greatest_of, value_of, with_value, is_in_range, first_out_of_range, IsInRange}
 
 -- if nothing is found, the first item does not pass and nothing is found after it
@@ -63,6 +63,7 @@ each_bounded c h CapVi = h.cap_vi
 each_bounded c h CapVo = h.cap_vo
 each_bounded c h Answers = h.answers
 each_bounded c h Credits = h.credits
+each_bounded c h Legacy = h.legacy
 
 all_bounded : (c : Config) → ((field : Field) → IsBounded c field) → IsInRange c
 all_bounded c each = record {
@@ -90,6 +91,7 @@ all_bounded c each = record {
   cap_vo = each CapVo;
   answers = each Answers;
   credits = each Credits;
+  legacy = each Legacy;
 }
 
 -- if one setting is set to a value in its range, each setting is in its range
@@ -119,6 +121,7 @@ bounded_anew c CapVi CapVi value h b = b
 bounded_anew c CapVo CapVo value h b = b
 bounded_anew c Answers Answers value h b = b
 bounded_anew c Credits Credits value h b = b
+bounded_anew c Legacy Legacy value h b = b
 bounded_anew c field other value h b = each_bounded c h other
 
 -- end bounds
@@ -158,6 +161,7 @@ in_range c none =
       cap_vo = bounds _ _ _ (holds 21 Stations (lit< tt));
       answers = bounds _ _ _ (holds 22 Stations (lit< tt));
       credits = bounds _ _ _ (holds 23 Stations (lit< tt));
+      legacy = bounds _ _ _ (holds 24 Stations (lit< tt));
     }
 
 -- end found

@@ -18,7 +18,7 @@ use Rattle.wf_frame.specs.declared.notes.Ask.{Ask}
 use Rattle.wf_frame.specs.declared.notes.Ask.TheVariants.{Join, Leave, Rate, Tick, Pull, Arrive, Answer, Done, Sleep, Wake, Poll, Rx, Reap, Ampdu, Stop, Start, Unsent, GiveUp, Flush, Offload, Weight, Plain, Hold, Begin, Free, Cease}
 use Rattle.wf_frame.specs.declared.notes.Limits.{Limits}
 use Rattle.wf_frame.specs.declared.notes.AskedRate.{AskedRate}
-use Rattle.wf_frame.specs.declared.notes.AskedRate.TheVariants.{Ht, Vht, He}
+use Rattle.wf_frame.specs.declared.notes.AskedRate.TheVariants.{Ht, Vht, He, Ofdm, Dsss}
 use Rattle.wf_def_lists.specs.Lengths.{greatest_body}
 
 -- ---- the table
@@ -40,6 +40,8 @@ form_row form.Leave = row 1 (codes "leave") (codes "leave S")
 form_row form.Rate = row 2 (codes "rate") (codes "rate S MCS MHZ GUARD")
 form_row form.RateVht = row 2 (codes "rate") (codes "rate S vht MCS MHZ GUARD N")
 form_row form.RateHe = row 2 (codes "rate") (codes "rate S he MCS MHZ GUARD N")
+form_row form.RateOfdm = row 2 (codes "rate") (codes "rate S ofdm MBIT")
+form_row form.RateDsss = row 2 (codes "rate") (codes "rate S dsss HALF_MBIT")
 form_row form.Tick = row 3 (codes "tick") (codes "tick MICROSECONDS")
 form_row form.Enqueue = row 4 (codes "enq") (codes "enq S TID FLOW LENGTH")
 form_row form.Pull = row 5 (codes "pull") (codes "pull CLASS")
@@ -92,6 +94,8 @@ arguments_of form.RateVht =
 arguments_of form.RateHe =
     argument.Station ∷ argument.Format ∷ argument.Mcs ∷ argument.Mhz ∷ argument.Nanoseconds ∷ argument.Streams
     ∷ []
+arguments_of form.RateOfdm = argument.Station ∷ argument.Format ∷ argument.Speed ∷ []
+arguments_of form.RateDsss = argument.Station ∷ argument.Format ∷ argument.HalfSpeed ∷ []
 arguments_of form.Tick = argument.By ∷ []
 arguments_of form.Enqueue = argument.Station ∷ argument.Tid ∷ argument.Flow ∷ argument.Length ∷ []
 arguments_of form.Pull = argument.Class ∷ []
@@ -140,6 +144,8 @@ argument_kind argument.Mhz = kind.Octet
 argument_kind argument.Guard = kind.Guard
 argument_kind argument.Nanoseconds = kind.Short
 argument_kind argument.Streams = kind.Octet
+argument_kind argument.Speed = kind.Octet
+argument_kind argument.HalfSpeed = kind.Octet
 argument_kind argument.By = kind.Long
 argument_kind argument.Tid = kind.Octet
 argument_kind argument.Flow = kind.Long
@@ -171,11 +177,11 @@ default_of _ = None
 -- all forms, in the order of the help
 abbrev pub forms : List CallForm
 forms =
-    form.Join ∷ form.Leave ∷ form.Rate ∷ form.RateVht ∷ form.RateHe ∷ form.Tick ∷ form.Enqueue ∷ form.Pull
-    ∷ form.PullFrames ∷ form.PullAir ∷ form.PullLimited ∷ form.Arrive ∷ form.Answer ∷ form.Done ∷ form.DoneAir
-    ∷ form.Sleep ∷ form.Wake ∷ form.Poll ∷ form.Rx ∷ form.Reap ∷ form.Ampdu ∷ form.Stop ∷ form.Start
-    ∷ form.Unsent ∷ form.GiveUp ∷ form.Flush ∷ form.Offload ∷ form.Weight ∷ form.Plain ∷ form.Hold ∷ form.Begin
-    ∷ form.Free ∷ form.Cease ∷ []
+    form.Join ∷ form.Leave ∷ form.Rate ∷ form.RateVht ∷ form.RateHe ∷ form.RateOfdm ∷ form.RateDsss
+    ∷ form.Tick ∷ form.Enqueue ∷ form.Pull ∷ form.PullFrames ∷ form.PullAir ∷ form.PullLimited ∷ form.Arrive
+    ∷ form.Answer ∷ form.Done ∷ form.DoneAir ∷ form.Sleep ∷ form.Wake ∷ form.Poll ∷ form.Rx ∷ form.Reap
+    ∷ form.Ampdu ∷ form.Stop ∷ form.Start ∷ form.Unsent ∷ form.GiveUp ∷ form.Flush ∷ form.Offload
+    ∷ form.Weight ∷ form.Plain ∷ form.Hold ∷ form.Begin ∷ form.Free ∷ form.Cease ∷ []
 
 -- all calls, in their first forms
 abbrev pub calls : List CallForm
@@ -197,10 +203,16 @@ call_numbered number = find (λ call. form_number call == number) calls
 abbrev pub format_word : RateFormat → List ℕ
 format_word format.Vht = codes "vht"
 format_word format.He = codes "he"
+format_word format.Ofdm = codes "ofdm"
+format_word format.Dsss = codes "dsss"
+
+-- all formats that have a word
+abbrev pub formats : List RateFormat
+formats = format.Vht ∷ format.He ∷ format.Ofdm ∷ format.Dsss ∷ []
 
 -- the format with this word
 abbrev pub format_named : List ℕ → Option RateFormat
-format_named word = find (λ f. bytes_eq (format_word f) word) (format.Vht ∷ format.He ∷ [])
+format_named word = find (λ f. bytes_eq (format_word f) word) formats
 
 -- ---- the values of a call
 
@@ -209,6 +221,8 @@ abbrev pub form_of_rate : AskedRate → CallForm
 form_of_rate (Ht mcs mhz short) = form.Rate
 form_of_rate (Vht mcs mhz short streams) = form.RateVht
 form_of_rate (He mcs mhz guard streams) = form.RateHe
+form_of_rate (Ofdm mbps) = form.RateOfdm
+form_of_rate (Dsss half) = form.RateDsss
 
 -- the form of the line of a Pull, by the limits that it gives
 abbrev pub form_of_limits : Option ℕ → Option ℕ → CallForm
@@ -259,6 +273,8 @@ values_of_rate (Vht mcs mhz short streams) =
     value.Format format.Vht ∷ value.Octet mcs ∷ value.Octet mhz ∷ value.Guard short ∷ value.Octet streams ∷ []
 values_of_rate (He mcs mhz guard streams) =
     value.Format format.He ∷ value.Octet mcs ∷ value.Octet mhz ∷ value.Short guard ∷ value.Octet streams ∷ []
+values_of_rate (Ofdm mbps) = value.Format format.Ofdm ∷ value.Octet mbps ∷ []
+values_of_rate (Dsss half) = value.Format format.Dsss ∷ value.Octet half ∷ []
 
 -- the values of an airtime, if there is one: that of a Done, or the limit of a Pull
 abbrev pub values_of_air : Option ℕ → List Value
@@ -333,6 +349,10 @@ ask_of form.RateVht (value.Short station ∷ value.Format format.Vht ∷ value.O
     ∷ value.Guard short ∷ value.Octet streams ∷ []) = Some (Rate station (Vht mcs mhz short streams))
 ask_of form.RateHe (value.Short station ∷ value.Format format.He ∷ value.Octet mcs ∷ value.Octet mhz
     ∷ value.Short guard ∷ value.Octet streams ∷ []) = Some (Rate station (He mcs mhz guard streams))
+ask_of form.RateOfdm (value.Short station ∷ value.Format format.Ofdm ∷ value.Octet mbps ∷ []) =
+    Some (Rate station (Ofdm mbps))
+ask_of form.RateDsss (value.Short station ∷ value.Format format.Dsss ∷ value.Octet half ∷ []) =
+    Some (Rate station (Dsss half))
 ask_of form.Tick (value.Long by ∷ []) = Some (Tick by)
 ask_of form.Pull (value.Class class ∷ []) = Some (Pull class (limits None None))
 ask_of form.PullFrames (value.Class class ∷ value.Frames ∷ value.Long frames ∷ []) =

@@ -2,7 +2,7 @@
 -- of them.
 use Rattle.std.specs.Prelude.{ℕ, ℤ, pos, ◌==◌, Option, Some, None, List, [], ◌∷◌, codes, find}
 use Rattle.wf_frame.specs.declared.notes.Refusal.{Refusal}
-use Rattle.wf_frame.specs.declared.notes.Refusal.TheVariants.{BadStation, BadWindow, BadStart, BadExponent, BadRate, BadTick, BadTid, BadAir, BadIndex, Live, NoStation, NoExchange, NoAnswer, Open, Room, Sleeping, Full, Idle, Answered, Arrived, Nothing, Asleep, Awake, Polled, Debt, HistoryFull, BadWeight, Ahead, BadAmpdu, Stopped, Started, Marked, Offloaded, Agreed, Held, NotHeld, NotAgreed, Waits}
+use Rattle.wf_frame.specs.declared.notes.Refusal.TheVariants.{BadStation, BadWindow, BadStart, BadExponent, BadRate, BadTick, BadTid, BadAir, BadIndex, Live, NoStation, NoExchange, NoAnswer, Open, Room, Sleeping, Full, Idle, Answered, Arrived, Nothing, Asleep, Awake, Polled, Debt, HistoryFull, BadWeight, Ahead, BadAmpdu, Stopped, Started, Marked, Offloaded, Agreed, Held, NotHeld, NotAgreed, Waits, Legacy}
 
 -- begin rows: tools/tables writes these lines
 
@@ -46,6 +46,7 @@ refusal_row Held = (35, codes "held")
 refusal_row NotHeld = (36, codes "not-held")
 refusal_row NotAgreed = (37, codes "not-agreed")
 refusal_row (Waits count) = (38, codes "waits")
+refusal_row Legacy = (39, codes "legacy")
 
 -- end rows
 
@@ -77,7 +78,7 @@ refusal_list =
     BadStation ∷ BadWindow ∷ BadStart ∷ BadExponent ∷ BadRate ∷ BadTick ∷ BadTid ∷ BadAir ∷ BadIndex ∷ Live
     ∷ NoStation ∷ NoExchange ∷ NoAnswer ∷ Open 0 ∷ Room 0 ∷ Sleeping 0 ∷ Full 0 ∷ Idle ∷ Answered ∷ Arrived
     ∷ Nothing ∷ Asleep ∷ Awake ∷ Polled ∷ Debt (pos 0) ∷ HistoryFull ∷ BadWeight ∷ Ahead 0 ∷ BadAmpdu
-    ∷ Stopped ∷ Started ∷ Marked ∷ Offloaded ∷ Agreed ∷ Held ∷ NotHeld ∷ NotAgreed ∷ Waits 0 ∷ []
+    ∷ Stopped ∷ Started ∷ Marked ∷ Offloaded ∷ Agreed ∷ Held ∷ NotHeld ∷ NotAgreed ∷ Waits 0 ∷ Legacy ∷ []
 
 -- end numbers
 

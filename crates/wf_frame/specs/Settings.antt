@@ -4,7 +4,7 @@ use Rattle.std.specs.Prelude.{ℕ, ◌==◌, ◌≤◌, nat_le, Bool, false, ◌
 use Rattle.std.specs.Str.{bytes_eq}
 use Rattle.wf_frame.specs.declared.settings.Config.{Config}
 use Rattle.wf_frame.specs.declared.settings.Field.{Field}
-use Rattle.wf_frame.specs.declared.settings.Field.TheVariants.{Stations, Flows, Limit, Room, FlowQuantum, Quantum, Inflight, Attempts, Agg, Cap, Sleeping, Calls, Charge, Debt, AqlTotal, KeepOrder, CodelReset, Aql, Pending, Overhead, CapVi, CapVo, Answers, Credits}
+use Rattle.wf_frame.specs.declared.settings.Field.TheVariants.{Stations, Flows, Limit, Room, FlowQuantum, Quantum, Inflight, Attempts, Agg, Cap, Sleeping, Calls, Charge, Debt, AqlTotal, KeepOrder, CodelReset, Aql, Pending, Overhead, CapVi, CapVo, Answers, Credits, Legacy}
 
 -- a row: the number of a setting, its word, its least value and its greatest value
 pub record Row : Type 0 where
@@ -44,6 +44,7 @@ setting_row CapVi = row 21 (codes "cap_vi") 0 5400
 setting_row CapVo = row 22 (codes "cap_vo") 0 5400
 setting_row Answers = row 23 (codes "answers") 0 1
 setting_row Credits = row 24 (codes "credits") 0 1
+setting_row Legacy = row 25 (codes "legacy") 0 2
 
 -- the standard settings: those of a head that sets none
 abbrev pub standard : Config
@@ -72,6 +73,7 @@ standard = record {
   cap_vo = 0;
   answers = 0;
   credits = 0;
+  legacy = 0;
 }
 
 -- the settings for devices: the standard ones with these values
@@ -92,7 +94,7 @@ device = record standard {
 abbrev pub fields : List Field
 fields = Stations ∷ Flows ∷ Limit ∷ Room ∷ FlowQuantum ∷ Quantum ∷ Inflight ∷ Attempts ∷ Agg ∷ Cap ∷ Sleeping
     ∷ Calls ∷ Charge ∷ Debt ∷ AqlTotal ∷ KeepOrder ∷ CodelReset ∷ Aql ∷ Pending ∷ Overhead ∷ CapVi ∷ CapVo
-    ∷ Answers ∷ Credits ∷ []
+    ∷ Answers ∷ Credits ∷ Legacy ∷ []
 
 -- end rows
 
@@ -148,6 +150,7 @@ value_of c CapVi = c.cap_vi
 value_of c CapVo = c.cap_vo
 value_of c Answers = c.answers
 value_of c Credits = c.credits
+value_of c Legacy = c.legacy
 
 -- the settings with one of them set to a value
 abbrev pub with_value : Config → Field → ℕ → Config
@@ -175,6 +178,7 @@ with_value c CapVi value = record c { cap_vi = value }
 with_value c CapVo value = record c { cap_vo = value }
 with_value c Answers value = record c { answers = value }
 with_value c Credits value = record c { credits = value }
+with_value c Legacy value = record c { legacy = value }
 
 -- end values
 
@@ -225,5 +229,6 @@ pub record IsInRange (config : Config) : Type 0 where
   pub cap_vo : (0 ≤ config.cap_vo) × (config.cap_vo ≤ 5400)
   pub answers : (0 ≤ config.answers) × (config.answers ≤ 1)
   pub credits : (0 ≤ config.credits) × (config.credits ≤ 1)
+  pub legacy : (0 ≤ config.legacy) × (config.legacy ≤ 2)
 
 -- end ranges

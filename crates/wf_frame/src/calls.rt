@@ -9,7 +9,7 @@ use crate::Class;
 /// The greatest number of frames that a line gives to a pull as its limit.
 const GREATEST_FRAMES: u32 = 65_535;
 
-/// A form of a call's line. A rate has three forms, one for each format, a pull has four, by the limits that
+/// A form of a call's line. A rate has five forms, one for each format, a pull has four, by the limits that
 /// it gives, and the end of an exchange has two; each other call has one. The comment of each variant is its
 /// sentence in the table of docs/TRACE.md. Names in capitals stand in the line.
 #[derive(Clone, Copy)]
@@ -25,6 +25,10 @@ pub enum CallForm {
     RateVht,
     /// From now on data to the station is sent at this HE rate with N streams; GUARD is in nanoseconds.
     RateHe,
+    /// From now on data to the station is sent with OFDM at MBIT Mbit/s, one frame at a time.
+    RateOfdm,
+    /// From now on data to the station is sent with DSSS at HALF_MBIT half Mbit/s, one frame at a time.
+    RateDsss,
     /// The clock moves on.
     Tick,
     /// A frame for a station is enqueued; LENGTH is the length of its body in octets.
@@ -90,6 +94,8 @@ pub enum CallForm {
 pub enum RateFormat {
     Vht,
     He,
+    Ofdm,
+    Dsss,
 }
 
 /// An argument of a call.
@@ -107,7 +113,7 @@ pub enum Argument {
     Weight,
     /// The weight that a station gets.
     NewWeight,
-    /// The format of a rate of VHT or HE.
+    /// The format of a rate that is not of HT.
     Format,
     /// The modulation and coding scheme.
     Mcs,
@@ -119,6 +125,10 @@ pub enum Argument {
     Nanoseconds,
     /// The spatial streams of VHT or HE.
     Streams,
+    /// The speed of OFDM in Mbit/s.
+    Speed,
+    /// The speed of DSSS in half Mbit/s.
+    HalfSpeed,
     /// The number of microseconds by which the clock moves.
     By,
     /// The TID of a frame.
@@ -166,7 +176,7 @@ pub enum Arg {
     Weight,
     /// `bk`, `be`, `vi` or `vo`.
     Class,
-    /// `vht` or `he`.
+    /// `vht`, `he`, `ofdm` or `dsss`.
     Format,
     /// `long` or `short`.
     Guard,
@@ -246,12 +256,14 @@ const CALLS: [CallForm; 27] = [
     CallForm::Cease,
 ];
 
-const FORMS: [CallForm; 33] = [
+const FORMS: [CallForm; 35] = [
     CallForm::Join,
     CallForm::Leave,
     CallForm::Rate,
     CallForm::RateVht,
     CallForm::RateHe,
+    CallForm::RateOfdm,
+    CallForm::RateDsss,
     CallForm::Tick,
     CallForm::Enqueue,
     CallForm::Pull,
@@ -286,11 +298,13 @@ impl RateFormat {
     /// Returns the word of the format.
     pub fn word(self) -> &'static [u8]
         ensures word { result.now ≡ word_of_format self }
-        ensures short { length result.now ≤ 3 }
+        ensures short { length result.now ≤ 4 }
     {
         match self {
             RateFormat::Vht => b"vht",
             RateFormat::He => b"he",
+            RateFormat::Ofdm => b"ofdm",
+            RateFormat::Dsss => b"dsss",
         }
     }
 
@@ -301,6 +315,8 @@ impl RateFormat {
         match word {
             b"vht" => Some(RateFormat::Vht),
             b"he" => Some(RateFormat::He),
+            b"ofdm" => Some(RateFormat::Ofdm),
+            b"dsss" => Some(RateFormat::Dsss),
             _ => None,
         }
     }
@@ -321,6 +337,8 @@ impl CallForm {
             CallForm::Rate => (2, b"rate", b"rate S MCS MHZ GUARD"),
             CallForm::RateVht => (2, b"rate", b"rate S vht MCS MHZ GUARD N"),
             CallForm::RateHe => (2, b"rate", b"rate S he MCS MHZ GUARD N"),
+            CallForm::RateOfdm => (2, b"rate", b"rate S ofdm MBIT"),
+            CallForm::RateDsss => (2, b"rate", b"rate S dsss HALF_MBIT"),
             CallForm::Tick => (3, b"tick", b"tick MICROSECONDS"),
             CallForm::Enqueue => (4, b"enq", b"enq S TID FLOW LENGTH"),
             CallForm::Pull => (5, b"pull", b"pull CLASS"),
@@ -353,7 +371,7 @@ impl CallForm {
     }
 
     /// Returns all forms, in the order of the help.
-    pub fn all() -> [CallForm; 33]
+    pub fn all() -> [CallForm; 35]
         ensures { result ≡ forms }
     {
         FORMS
@@ -409,7 +427,11 @@ impl CallForm {
                 Argument::Exponent,
                 Argument::Weight,
             ],
-            CallForm::Rate | CallForm::RateVht | CallForm::RateHe => self.rate_arguments(),
+            CallForm::Rate
+            | CallForm::RateVht
+            | CallForm::RateHe
+            | CallForm::RateOfdm
+            | CallForm::RateDsss => self.rate_arguments(),
             CallForm::Tick => &[Argument::By],
             CallForm::Enqueue => &[
                 Argument::Station,
@@ -497,6 +519,8 @@ impl CallForm {
                 Argument::Nanoseconds,
                 Argument::Streams,
             ],
+            CallForm::RateOfdm => &[Argument::Station, Argument::Format, Argument::Speed],
+            CallForm::RateDsss => &[Argument::Station, Argument::Format, Argument::HalfSpeed],
             _ => &[
                 Argument::Station,
                 Argument::Mcs,
@@ -522,6 +546,8 @@ impl Argument {
             | Argument::Mcs
             | Argument::Mhz
             | Argument::Streams
+            | Argument::Speed
+            | Argument::HalfSpeed
             | Argument::NewWeight
             | Argument::Tid => Arg::Octet,
             Argument::By | Argument::Flow | Argument::Air | Argument::Octets => Arg::Long,

@@ -5,7 +5,7 @@ use crate::{Class, Fate, Ids, Pairs};
 /// The numbers of a rate, as a caller gives them. `mcs` is the modulation and coding scheme, `mhz` the
 /// width of the channel, `short` a guard interval of 400 ns instead of 800, `guard` the guard interval in
 /// nanoseconds, and `streams` the number of spatial streams. A rate outside the given ranges is refused,
-/// and so are ten combinations of VHT.
+/// and so are ten combinations of VHT, and a rate that the setting `legacy` does not allow.
 #[derive(Clone, Copy, Debug, PartialEq, Eq)]
 pub enum AskedRate {
     /// A rate of HT (IEEE 802.11-2012, clause 20): MCS 0 to 15, 20 or 40 MHz.
@@ -29,6 +29,14 @@ pub enum AskedRate {
         mhz: u8,
         guard: u16,
         streams: u8,
+    },
+    /// A rate of OFDM (IEEE 802.11-2012, clause 18): 6, 9, 12, 18, 24, 36, 48 or 54 Mbit/s.
+    Ofdm {
+        mbps: u8,
+    },
+    /// A rate of DSSS with its long preamble (IEEE 802.11-2012, clause 17): 2, 4, 11 or 22 half Mbit/s.
+    Dsss {
+        half_mbps: u8,
     },
 }
 
@@ -234,8 +242,9 @@ pub enum Refusal {
     BadStart,
     /// The A-MPDU length exponent is above 3.
     BadExponent,
-    /// The rate does not exist: its format does not have this MCS, width, guard interval or number of
-    /// streams, or it is one of the ten combinations that VHT leaves out.
+    /// The rate does not exist: its format does not have this MCS, width, guard interval, number of streams
+    /// or speed, or it is one of the ten combinations that VHT leaves out; or the setting `legacy` does not
+    /// allow it.
     BadRate,
     /// The clock would move by more than 10,000,000 microseconds.
     BadTick,
@@ -294,7 +303,7 @@ pub enum Refusal {
     Marked,
     /// The device of the station makes its agreements.
     Offloaded,
-    /// The TID has an agreement.
+    /// `hold`: the TID has an agreement; `rate` to OFDM or DSSS: a TID of the station has one or is held.
     Agreed,
     /// The TID is held already.
     Held,
@@ -304,6 +313,8 @@ pub enum Refusal {
     NotAgreed,
     /// `count` sequence numbers of the TID wait to be sent.
     Waits { count: u32 },
+    /// The rate of the station is one of OFDM or DSSS, at which it has no agreement.
+    Legacy,
     // end refusals
 }
 

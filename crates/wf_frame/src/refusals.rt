@@ -6,7 +6,7 @@ ghost use Rattle.wf_frame.specs.Refusals.{refusal_number, refusal_word, number_t
 use crate::Refusal;
 
 // The refusals by their numbers. A number that follows the word is 0.
-const REFUSALS: [Refusal; 38] = [
+const REFUSALS: [Refusal; 39] = [
     // begin list: tools/tables writes these lines
     Refusal::BadStation,
     Refusal::BadWindow,
@@ -46,6 +46,7 @@ const REFUSALS: [Refusal; 38] = [
     Refusal::NotHeld,
     Refusal::NotAgreed,
     Refusal::Waits { count: 0 },
+    Refusal::Legacy,
     // end list
 ];
 
@@ -54,7 +55,7 @@ impl Refusal {
     fn row(self) -> (u8, &'static [u8])
         ensures number { result.0 ≡ refusal_number self }
         ensures word { result.1.now ≡ refusal_word self }
-        ensures range { (0 < result.0) × (result.0 ≤ 38) }
+        ensures range { (0 < result.0) × (result.0 ≤ 39) }
         ensures short { length result.1.now ≤ 12 }
     {
         match self {
@@ -97,14 +98,15 @@ impl Refusal {
             Refusal::NotHeld => (36, b"not-held"),
             Refusal::NotAgreed => (37, b"not-agreed"),
             Refusal::Waits { .. } => (38, b"waits"),
+            Refusal::Legacy => (39, b"legacy"),
             // end rows
         }
     }
 
-    /// Returns the number of the refusal in C: 1 to 38.
+    /// Returns the number of the refusal in C: 1 to 39.
     pub fn number(self) -> u8
         ensures number { result ≡ refusal_number self }
-        ensures range { (0 < result) × (result ≤ 38) }
+        ensures range { (0 < result) × (result ≤ 39) }
     {
         self.row().0
     }

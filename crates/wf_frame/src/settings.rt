@@ -60,6 +60,9 @@ pub struct Config {
     /// Whether a credit blocks the next poll only while the station can send in the credit's class: 1, or
     /// 0, always.
     pub credits: u32,
+    /// Which rates a station may have: those of HT, VHT and HE with 0, also of OFDM with 1, and also of
+    /// OFDM and DSSS with 2.
+    pub legacy: u32,
     // end fields
 }
 
@@ -117,11 +120,13 @@ pub enum Field {
     Answers,
     /// Whether a credit blocks the next poll only while the station can send in the credit's class.
     Credits,
+    /// Which rates a station may have: HT, VHT and HE; with 1 also OFDM; with 2 also OFDM and DSSS.
+    Legacy,
     // end variants
 }
 
 // The settings, in the order in which they are checked.
-const FIELDS: [Field; 24] = [
+const FIELDS: [Field; 25] = [
     // begin list: tools/tables writes these lines
     Field::Stations,
     Field::Flows,
@@ -147,12 +152,13 @@ const FIELDS: [Field; 24] = [
     Field::CapVo,
     Field::Answers,
     Field::Credits,
+    Field::Legacy,
     // end list
 ];
 
 impl Field {
     /// Returns the settings, in the order in which they are checked.
-    pub fn all() -> [Field; 24]
+    pub fn all() -> [Field; 25]
         ensures { result ≡ fields }
     {
         FIELDS
@@ -164,7 +170,7 @@ impl Field {
         ensures word { result.1.now ≡ setting_word self }
         ensures least { result.2 ≡ lowest_of self }
         ensures greatest { result.3 ≡ greatest_of self }
-        ensures numbered { (1 ≤ result.0) × (result.0 ≤ 24) }
+        ensures numbered { (1 ≤ result.0) × (result.0 ≤ 25) }
         ensures short { length result.1.now ≤ 12 }
     {
         match self {
@@ -193,14 +199,15 @@ impl Field {
             Field::CapVo => (22, b"cap_vo", 0, 5400),
             Field::Answers => (23, b"answers", 0, 1),
             Field::Credits => (24, b"credits", 0, 1),
+            Field::Legacy => (25, b"legacy", 0, 2),
             // end rows
         }
     }
 
-    /// Returns the number of the setting in C: 1 to 24.
+    /// Returns the number of the setting in C: 1 to 25.
     pub fn number(self) -> u8
         ensures number { result ≡ setting_number self }
-        ensures range { (1 ≤ result) × (result ≤ 24) }
+        ensures range { (1 ≤ result) × (result ≤ 25) }
     {
         self.row().0
     }
@@ -284,6 +291,7 @@ impl Field {
             Field::CapVo => config.cap_vo,
             Field::Answers => config.answers,
             Field::Credits => config.credits,
+            Field::Legacy => config.legacy,
             // end value
         }
     }
@@ -318,6 +326,7 @@ impl Field {
             Field::CapVo => config.cap_vo = value,
             Field::Answers => config.answers = value,
             Field::Credits => config.credits = value,
+            Field::Legacy => config.legacy = value,
             // end set
         }
     }
@@ -354,6 +363,7 @@ impl Config {
             cap_vo: 0,
             answers: 0,
             credits: 0,
+            legacy: 0,
             // end standard
         }
     }
@@ -390,6 +400,7 @@ impl Config {
             cap_vo: 0,
             answers: 0,
             credits: 1,
+            legacy: 0,
             // end device
         }
     }

@@ -182,6 +182,8 @@ impl AskedRate {
             AskedRate::Ht { .. } => CallForm::Rate,
             AskedRate::Vht { .. } => CallForm::RateVht,
             AskedRate::He { .. } => CallForm::RateHe,
+            AskedRate::Ofdm { .. } => CallForm::RateOfdm,
+            AskedRate::Dsss { .. } => CallForm::RateDsss,
         }
     }
 
@@ -223,6 +225,16 @@ impl AskedRate {
                 Value::Octet(mhz),
                 Value::Short(guard),
                 Value::Octet(streams),
+            ]),
+            AskedRate::Ofdm { mbps } => listed(&[
+                station,
+                Value::Format(RateFormat::Ofdm),
+                Value::Octet(mbps),
+            ]),
+            AskedRate::Dsss { half_mbps } => listed(&[
+                station,
+                Value::Format(RateFormat::Dsss),
+                Value::Octet(half_mbps),
             ]),
         }
     }
@@ -351,6 +363,8 @@ fn ask_made(form: CallForm, values: &[Value]) -> Option<Ask>
         CallForm::Rate => ht(values),
         CallForm::RateVht => vht(values),
         CallForm::RateHe => he(values),
+        CallForm::RateOfdm => ofdm(values),
+        CallForm::RateDsss => dsss(values),
         CallForm::Tick => tick(values),
         CallForm::Enqueue => None,
         CallForm::Pull => pull(values),
@@ -532,6 +546,41 @@ fn he(values: &[Value]) -> Option<Ask>
             mhz: *mhz,
             guard: *guard,
             streams: *streams,
+        },
+    ))
+}
+
+// The Rate call with the values of a rate of OFDM.
+fn ofdm(values: &[Value]) -> Option<Ask>
+    ensures { result ≡ ask_of CallForm.RateOfdm values.now }
+{
+    let [
+        Value::Short(station),
+        Value::Format(RateFormat::Ofdm),
+        Value::Octet(mbps),
+    ] = values
+    else {
+        return None;
+    };
+    Some(rated(*station, AskedRate::Ofdm { mbps: *mbps }))
+}
+
+// The Rate call with the values of a rate of DSSS.
+fn dsss(values: &[Value]) -> Option<Ask>
+    ensures { result ≡ ask_of CallForm.RateDsss values.now }
+{
+    let [
+        Value::Short(station),
+        Value::Format(RateFormat::Dsss),
+        Value::Octet(half_mbps),
+    ] = values
+    else {
+        return None;
+    };
+    Some(rated(
+        *station,
+        AskedRate::Dsss {
+            half_mbps: *half_mbps,
         },
     ))
 }
