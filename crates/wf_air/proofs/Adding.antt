@@ -1,11 +1,11 @@
 -- Proves that the three tests of `add` say exactly whether one more frame fits.
 use Rattle.std.proofs.Common.{◌≡◌, ◌∙◌, refl, sym, ap, subst, arith, ℕ, ◌+◌, ◌<◌, ◌≤◌, Bool, true, false, List, [], ◌∷◌, ◌++◌, ◌&&◌}
-use Rattle.std.specs.Prelude.{nat_lt, nat_le, max}
+use Rattle.std.specs.Prelude.{nat_lt, nat_le}
 use Rattle.std.proofs.lemmas.Bool.Decides.{nat_tests}
 use Rattle.wf_def_lists.specs.Lengths.{greatest_protected}
 use Rattle.std.proofs.Math.Nat.{le-max_right}
 use Rattle.wf_def_air.specs.Airtime.{data_time}
-use Rattle.wf_def_air.specs.Fit.{subframe_octets, padded, longest_alone, fits}
+use Rattle.wf_def_air.specs.Fit.{subframe_octets, padded, alone_at, fits}
 use Rattle.wf_air.specs.Rates.{longest_aggregate, longest_single}
 use Rattle.wf_air.specs.declared.fit.AggregateSize.TheInside.{Inside}
 use Rattle.wf_air.specs.Sizes.{AggregateSizeValue, SizeStandsFor, time_with_next}
@@ -33,9 +33,9 @@ is_within n m h = grind (arith, nat_tests)
 is_above : (n m : ℕ) → m < n → nat_le n m ≡ false
 is_above n m h = grind (arith, nat_tests)
 
--- a single frame may take `longest_alone`
-pub alone_allowed : (room : AggregateSizeValue) → room.count ≡ 0 → longest_alone ≤ time_with_next room
-alone_allowed room none = rw none (le-max_right room.limits.time longest_alone)
+-- a single frame may take `alone_at` its rate
+pub alone_allowed : (room : AggregateSizeValue) → room.count ≡ 0 → alone_at room.rate ≤ time_with_next room
+alone_allowed room none = rw none (le-max_right room.limits.time (alone_at room.rate))
 
 module _ (r : Inside) (room : AggregateSizeValue) (viewed : value_of r ≡ room) (is : IsSize r)
     (len octets : ℕ)

@@ -1,8 +1,8 @@
 -- Proves how one more frame changes the octets of an aggregate, and whether it fits.
 use Rattle.std.proofs.Common.{◌≡◌, ℕ, ◌+◌, ◌∙◌, refl, sym, ap, arith, List, [], ◌∷◌, ◌++◌, length, length-append, ◌&&◌}
-use Rattle.std.specs.Prelude.{nat_lt, nat_le, max, if◌then◌else◌, ◌==◌}
+use Rattle.std.specs.Prelude.{nat_lt, nat_le, ◌==◌}
 use Rattle.std.proofs.lemmas.Bool.Decides.{nat_tests}
-use Rattle.wf_def_air.specs.Fit.{subframe_octets, padded, aggregate_octets, longest_alone, time_allowed, fits}
+use Rattle.wf_def_air.specs.Fit.{subframe_octets, padded, aggregate_octets, time_allowed, fits}
 use Rattle.wf_air.specs.Sizes.{AggregateSizeValue, SizeStandsFor, time_with_next, is_short}
 
 -- The former last subframe is padded: the octets are rounded up to a multiple of 4.
@@ -29,7 +29,7 @@ module _ (room : AggregateSizeValue) (lens : List ℕ) (len octets : ℕ)
   count_more = omega (arith, length-append lens (len ∷ []), stands.count)
 
   -- after one more frame there is a single one exactly if there was none
-  time_more : time_allowed room.limits.time (lens ++ len ∷ []) ≡ time_with_next room
+  time_more : time_allowed room.rate room.limits.time (lens ++ len ∷ []) ≡ time_with_next room
   time_more = rw (count_more, alone_after room.count) refl
 
   pub fits_more : fits room.rate room.limits.octets room.limits.frames room.limits.time (lens ++ len ∷ [])

@@ -3,7 +3,7 @@
 use Rattle.std.proofs.Common.{◌≡◌, refl, ℕ, zero, suc, ◌+◌, ◌-◌, ◌*◌, ◌%◌, ◌^◌, ◌≤◌, arith, lit≤, Option, Some, None}
 use Rattle.std.specs.Prelude.{IfSome}
 use Rattle.wf_def_lists.specs.Bounds.{least_ampdu, greatest_ampdu}
-use Rattle.wf_def_air.specs.Airtime.{Rate, Ht, Vht, He}
+use Rattle.wf_def_air.specs.Airtime.{Rate, Ht, Vht, He, Ofdm, Dsss}
 use Rattle.wf_def_air.specs.Fit.{most_octets}
 use Rattle.wf_air.specs.Rates.{longest_single}
 
@@ -37,6 +37,8 @@ pub most_is : (r : Rate) (x : ℕ) (stated : Option ℕ) → x ≤ 3 →
 most_is (Ht mcs mhz s) x stated h i = short x h
 most_is (Vht mcs mhz s n) x stated h i = given x stated h i
 most_is (He mcs mhz g n) x stated h i = given x stated h i
+most_is (Ofdm mbps) x stated h i = short x h
+most_is (Dsss half) x stated h i = short x h
 
 -- ---- the limits that the code computes
 
@@ -54,13 +56,15 @@ shifted (suc (suc zero)) h = refl
 shifted (suc (suc (suc zero))) h = refl
 shifted (suc (suc (suc (suc x)))) h = absurd (omega (arith, h))
 
--- a rate is not of HT
+-- a rate is of VHT or HE
 abbrev pub IsLater : Rate → Type 0
-IsLater (Ht mcs mhz s) = ⊥
 IsLater (Vht mcs mhz s n) = Unit {0}
 IsLater (He mcs mhz g n) = Unit {0}
+IsLater r = ⊥
 
 pub unstated : (r : Rate) (x : ℕ) → IsLater r → most_octets r x None ≡ 2 ^ (17 + x) - 1
 unstated (Ht mcs mhz s) x h = absurd h
+unstated (Ofdm mbps) x h = absurd h
+unstated (Dsss half) x h = absurd h
 unstated (Vht mcs mhz s n) x h = refl
 unstated (He mcs mhz g n) x h = refl

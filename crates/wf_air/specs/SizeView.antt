@@ -2,7 +2,7 @@
 use Rattle.std.specs.Prelude.{◌≡◌, ◌≤◌, max}
 use Rattle.wf_def_lists.specs.Bounds.{greatest_ampdu}
 use Rattle.wf_def_air.specs.Airtime.{data_time}
-use Rattle.wf_def_air.specs.Fit.{longest_alone}
+use Rattle.wf_def_air.specs.Fit.{alone_at}
 use Rattle.wf_air.specs.Rates.{longest_time, longest_single}
 use Rattle.wf_air.specs.Sizes.{AggregateSizeValue}
 use Rattle.wf_air.specs.declared.fit.AggregateSize.TheInside.{Inside}
@@ -27,4 +27,4 @@ pub record IsSize (r : Inside) : Type 0 where
   pub empty : r.count ≡ 0 → r.octets ≡ 0
   pub short : r.time ≤ longest_time
   pub timed : 1 ≤ r.count → r.time ≡ data_time r.rate r.octets
-  pub timely : 1 ≤ r.count → data_time r.rate r.octets ≤ max r.limits.time longest_alone
+  pub timely : 1 ≤ r.count → data_time r.rate r.octets ≤ max r.limits.time (alone_at r.rate)

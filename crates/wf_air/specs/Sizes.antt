@@ -1,7 +1,7 @@
 -- Defines the size of an aggregate as contracts see it.
 use Rattle.std.specs.Prelude.{◌≡◌, ℕ, nat_le, Bool, ◌&&◌, ◌==◌, max, List, length, if◌then◌else◌}
 use Rattle.wf_def_air.specs.Airtime.{Rate, data_time}
-use Rattle.wf_def_air.specs.Fit.{aggregate_octets, longest_alone}
+use Rattle.wf_def_air.specs.Fit.{aggregate_octets, alone_at}
 use Rattle.wf_air.specs.declared.fit.SizeLimits.{SizeLimits}
 
 pub record AggregateSizeValue : Type 0 where
@@ -21,9 +21,9 @@ pub record SizeStandsFor (room : AggregateSizeValue) (lens : List ℕ) : Type 0 
   pub count : room.count ≡ length lens
   pub octets : room.octets ≡ aggregate_octets lens
 
--- the greatest data time in microseconds after one more frame: a single frame may take `longest_alone`
+-- the greatest data time in microseconds after one more frame: a single frame may take `alone_at` its rate
 abbrev pub time_with_next : AggregateSizeValue → ℕ
-time_with_next room = if room.count == 0 then max room.limits.time longest_alone else room.limits.time
+time_with_next room = if room.count == 0 then max room.limits.time (alone_at room.rate) else room.limits.time
 
 -- whether an aggregate of this many octets is within the limits of length and time
 abbrev pub is_short : AggregateSizeValue → ℕ → Bool

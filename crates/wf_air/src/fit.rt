@@ -1,11 +1,11 @@
 //! The size of an aggregate (A-MPDU) and its limits: IEEE 802.11-2012, 8.6.1 (subframes and their padding)
 //! and 9.12.2 (the length limit). Lengths are octets, times whole microseconds.
 
-ghost use Rattle.std.specs.Prelude.{◌≡◌, ◌+◌, ◌-◌, ◌≤◌, ◌++◌, [], ◌∷◌, ℕ, max, List, length, IsTrue, IsFalse};
+ghost use Rattle.std.specs.Prelude.{◌≡◌, ◌+◌, ◌-◌, ◌≤◌, ◌++◌, [], ◌∷◌, ℕ, max, List, length, false, IsTrue, IsFalse};
 ghost use Rattle.wf_def_lists.specs.Lengths.{greatest_protected};
 ghost use Rattle.wf_def_lists.specs.Bounds.{greatest_ampdu};
-ghost use Rattle.wf_def_air.specs.Airtime.{data_charge, plain_charge, longest_answer};
-ghost use Rattle.wf_def_air.specs.Fit.{aggregate_octets, plain_octets, fits, longest_alone};
+ghost use Rattle.wf_def_air.specs.Airtime.{legacy_of, is_single, data_charge, plain_charge, longest_answer};
+ghost use Rattle.wf_def_air.specs.Fit.{aggregate_octets, plain_octets, fits, longest_alone, alone_at};
 ghost use Rattle.wf_air.specs.Rates.{longest_single};
 ghost use Rattle.wf_air.specs.Sizes.{empty_size, time_with_next, SizeStandsFor};
 
@@ -27,9 +27,26 @@ pub const OVERHEAD_OCTETS: u32 = DELIMITER_OCTETS + HEADER_OCTETS + CHECK_OCTETS
 /// Each subframe except the last is padded to a multiple of this, in octets (8.6.1).
 const PADDING: u32 = 4;
 
-/// The data time that a frame alone may take whatever the limit is, in microseconds. At every rate the
-/// greatest body with its encryption fits it.
-pub(crate) const LONGEST_ALONE: u32 = 3_000;
+/// The data time that a frame alone may take whatever the limit is, in microseconds, with the setting
+/// `legacy` 0, 1 and 2. At every rate that it allows the greatest body with its encryption fits it.
+const LONGEST_ALONE: u32 = 3_000;
+
+const LONGEST_OFDM_ALONE: u32 = 3_200;
+
+const LONGEST_DSSS_ALONE: u32 = 19_200;
+
+// Returns the data time that a frame alone may take whatever the limit is, in microseconds, by the setting
+// `legacy`.
+pub(crate) fn longest_alone(legacy: u32) -> u32
+    ensures exact { result ≡ longest_alone legacy }
+    ensures most { result ≤ 19200 }
+{
+    match legacy {
+        0 => LONGEST_ALONE,
+        1 => LONGEST_OFDM_ALONE,
+        _ => LONGEST_DSSS_ALONE,
+    }
+}
 
 /// The limits of an aggregate: its octets, its frames, and its data time in microseconds.
 #[derive(Clone, Copy, Debug, PartialEq, Eq)]
@@ -68,8 +85,8 @@ impl Model for AggregateSize {
 impl AggregateSize {
     /// Returns the size of an empty aggregate for a station with this rate. It takes at most
     /// `limits.octets`, 2370 to 6,500,631, at most `limits.frames`, 1 or more, and data of at most
-    /// `limits.time` microseconds; a frame alone may take 3000. `answers` is the setting of that name.
-    /// `wide` says that the session's window is above 64.
+    /// `limits.time` microseconds; a frame alone may take 3000, one of OFDM 3200, and one of DSSS 19,200.
+    /// `answers` is the setting of that name. `wide` says that the session's window is above 64.
     pub fn new(rate: Rate, limits: SizeLimits, answers: u32, wide: bool) -> AggregateSize
         requires octets_least { longest_single ≤ limits.octets }
         requires octets_most { limits.octets ≤ greatest_ampdu }
@@ -93,7 +110,7 @@ impl AggregateSize {
         ensures { result ≡ time_with_next self.now }
     {
         if self.count == 0 {
-            self.limits.time.max(LONGEST_ALONE)
+            self.limits.time.max(longest_alone(self.rate.legacy()))
         } else {
             self.limits.time
         }
@@ -134,24 +151,33 @@ impl AggregateSize {
         self.count
     }
 
+    /// Returns whether the rate has no aggregates: it is one of OFDM or DSSS.
+    pub fn is_single(&self) -> bool
+        ensures { result ≡ is_single self.now.rate }
+    {
+        self.rate.is_single()
+    }
+
     /// Returns the charge of a data exchange of the frames in microseconds: at most `limits.time`, or 3000 if
-    /// that is less, SIFS and the longest BlockAck.
+    /// that is less, SIFS and the longest BlockAck. The rate is not one of OFDM or DSSS.
     pub fn air(&self) -> u32
         requires { 1 ≤ self.now.count }
         ensures exact { (lens : List ℕ) → SizeStandsFor self.now lens →
             result ≡ data_charge self.now.answers self.now.rate (aggregate_octets lens) self.now.wide }
-        ensures most { result ≤ max self.now.limits.time longest_alone + longest_answer self.now.answers }
+        ensures most { is_single self.now.rate ≡ false →
+            result ≤ max self.now.limits.time (longest_alone 0) + longest_answer self.now.answers 0 }
     {
         self.time + SIFS + answer_time(self.rate.control_mbps(self.answers), self.wide)
     }
 
-    /// Returns the charge of an exchange of the frames in microseconds if they are sent without an agreement:
-    /// at most `limits.time`, or 3000 if that is less, SIFS and the longest BlockAck.
+    /// Returns the charge of an exchange of the frames in microseconds if an Ack answers them: at most
+    /// `limits.time`, or what a frame alone may take if that is less, SIFS and the longest answer.
     pub fn plain_air(&self) -> u32
         requires { 1 ≤ self.now.count }
         ensures exact { (lens : List ℕ) → SizeStandsFor self.now lens →
             result ≡ plain_charge self.now.answers self.now.rate (plain_octets self.now.rate lens) }
-        ensures most { result ≤ max self.now.limits.time longest_alone + longest_answer self.now.answers }
+        ensures most { result ≤ max self.now.limits.time (alone_at self.now.rate)
+            + longest_answer self.now.answers (legacy_of self.now.rate) }
     {
         let octets = self.rate.plain_octets(self.octets);
         self.rate.plain_charge(octets, self.answers)

@@ -1,5 +1,5 @@
-//! Airtime: the rates of HT, VHT and HE, how long transmissions take and what exchanges are charged (`time`),
-//! and which frames fit into an aggregate (`fit`).
+//! Airtime: the rates of HT, VHT, HE, OFDM and DSSS, how long transmissions take and what exchanges are
+//! charged (`time`), and which frames fit into an aggregate (`fit`).
 //!
 //! ```text
 //! let rate = Rate::vht(9, 80, true, 2)?;       // VHT MCS 9, 80 MHz, short guard interval, 2 streams

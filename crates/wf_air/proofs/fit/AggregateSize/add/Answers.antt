@@ -1,6 +1,6 @@
 -- Each of the three tests is one condition of the definition of fitting.
-use Rattle.std.proofs.Common.{◌≡◌, ap, subst, ℕ, ◌+◌, ◌<◌, ◌≤◌, refl, arith}
-use Rattle.wf_def_air.specs.Fit.{overhead_octets, subframe_octets, padded}
+use Rattle.std.proofs.Common.{◌≡◌, ap, ◌+◌, refl, arith}
+use Rattle.wf_def_air.specs.Fit.{overhead_octets, subframe_octets, padded, alone_at}
 use Rattle.wf_air.specs.Sizes.{AggregateSizeValue}
 use Rattle.wf_air.proofs.Adding.{few, alone, alone_allowed, refused_full, refused_long, refused_late, taken, stands_after}
 use Rattle.wf_air.proofs.fit.AggregateSize.add.Goals as goal
@@ -58,6 +58,7 @@ returns-then-time-time_with_next-clause-first c = λ none.
       c.time_with_next.ensures,
       c.data_time-time.ensures.single short.0,
       alone_allowed c.args.self.now none,
+      ap (λ (v : AggregateSizeValue). alone_at v.rate) c.self.view_is,
     ))
 
 pub returns-clause-exact : goal.returns-clause-exact

@@ -1,9 +1,10 @@
 -- The three quotients equal the definition's, and no product overflows.
-use Rattle.std.proofs.Common.{◌∙◌, ap, arith}
+use Rattle.std.proofs.Common.{◌∙◌, ◌≤◌, ap, subst, arith}
 use Rattle.wf_def_air.specs.Airtime.{Rate, data_time}
+use Rattle.wf_def_air.specs.Fit.{alone_at}
 use Rattle.wf_air.specs.Rates.{rate_of}
 use Rattle.wf_air.proofs.Bounds.{time_most, time_single}
-use Rattle.wf_air.proofs.Times.{some_bits, some_unit, time_is, few_in_symbols, few_in_all}
+use Rattle.wf_air.proofs.Times.{some_bits, some_unit, few_in_octets, time_is, few_in_symbols, few_in_all}
 use Rattle.wf_air.proofs.time.Rate.data_time.Goals as goal
 
 pub div_ceil-symbols-requires : goal.div_ceil-symbols-requires
@@ -11,6 +12,18 @@ div_ceil-symbols-requires c = some_bits _ _ c.self.invariant.0 c.self.invariant.
 
 pub overflow_mul-timing : goal.overflow_mul-timing
 overflow_mul-timing c = omega (
+  arith,
+  few_in_octets _ _ c.self.invariant.0 c.self.invariant.1 c.args.octets c.requires,
+)
+
+pub overflow_add-timing : goal.overflow_add-timing
+overflow_add-timing c = omega (
+  arith,
+  few_in_octets _ _ c.self.invariant.0 c.self.invariant.1 c.args.octets c.requires,
+)
+
+pub overflow_mul-timing-2 : goal.overflow_mul-timing-2
+overflow_mul-timing-2 c = omega (
   arith,
   few_in_symbols _ _ c.self.invariant.0 c.self.invariant.1 c.args.octets _
       c.div_ceil-symbols.ensures c.requires,
@@ -26,8 +39,8 @@ overflow_mul-payload c = omega (
       c.div_ceil-symbols.ensures c.requires _ c.div_ceil.ensures,
 )
 
-pub overflow_add-timing : goal.overflow_add-timing
-overflow_add-timing c = omega (
+pub overflow_add-timing-2 : goal.overflow_add-timing-2
+overflow_add-timing-2 c = omega (
   arith,
   few_in_all _ _ c.self.invariant.0 c.self.invariant.1 c.args.octets _
       c.div_ceil-symbols.ensures c.requires _ c.div_ceil.ensures,
@@ -48,4 +61,5 @@ pub returns-clause-single : goal.returns-clause-single
 returns-clause-single c = λ short.
     let is = time_is _ _ c.self.invariant.0 c.self.invariant.1 c.args.octets _
     c.div_ceil-symbols.ensures _ c.div_ceil.ensures _ c.div_ceil-2.ensures in
-    rw is (time_single (rate_of c.self.inside.format) c.args.octets c.self.invariant.0 short)
+    rw is (subst (λ (r : Rate). data_time (rate_of c.self.inside.format) c.args.octets ≤ alone_at r)
+    c.self.view_is (time_single (rate_of c.self.inside.format) c.args.octets c.self.invariant.0 short))

@@ -1,6 +1,5 @@
 -- The limit is computed by a shift, which is exact for the exponents 0 to 3.
-use Rattle.std.proofs.Common.{◌≡◌, ◌∙◌, sym, ap, subst, ℕ, ◌+◌, ◌-◌, ◌^◌, ◌≤◌, arith, Bool, Option, None, inl, inr, ◌⊎◌}
-use Rattle.wf_def_air.specs.Airtime.{Rate}
+use Rattle.std.proofs.Common.{◌≡◌, ◌∙◌, sym, ap, subst, ℕ, ◌+◌, ◌-◌, ◌^◌, arith, Bool, inl, inr, ◌⊎◌}
 use Rattle.wf_def_air.specs.Fit.{most_octets}
 use Rattle.wf_air.specs.Rates.{rate_of}
 use Rattle.wf_air.specs.declared.time.Format.{Format}
