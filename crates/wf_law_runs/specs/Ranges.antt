@@ -1,7 +1,7 @@
 -- Defines the law of ranges: which values stay in their ranges after every entry of every run.
 use Rattle.std.specs.Prelude.{◌≡◌, ℕ, ◌<◌, ◌≤◌, true, List, IfSome}
 use Rattle.wf_frame.specs.declared.settings.Config.{Config}
-use Rattle.wf_def_air.specs.Airtime.{IsRate}
+use Rattle.wf_def_air.specs.Airtime.{IsRate, IsAllowed}
 use Rattle.wf_def_codel.specs.Codel.{Codel, greatest_count}
 use Rattle.wf_def_lists.specs.Bounds.{greatest_window, greatest_exponent, greatest_weight, least_ampdu, greatest_ampdu}
 use Rattle.wf_def_world.specs.World.{World, station, session, receiver, queue, is_live}
@@ -14,6 +14,7 @@ pub record IsStation (config : Config) (w : World) (s : ℕ) : Type 0 where
   pub weight : (1 ≤ (station w s).weight) × ((station w s).weight ≤ greatest_weight)
   pub exponent : (station w s).exponent ≤ greatest_exponent
   pub rate : IsRate (station w s).rate
+  pub allowed : IsAllowed config.legacy (station w s).rate
   -- A stated length of its aggregates is one that a call may state.
   pub ampdu : IfSome (station w s).ampdu (λ n. (least_ampdu ≤ n) × (n ≤ greatest_ampdu))
   -- Only a sleeping station has a credit.

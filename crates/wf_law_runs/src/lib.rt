@@ -157,8 +157,8 @@ pub fn limit_law()
 {}
 
 /// After every entry, the values of a live station are in their ranges: its number, weight, rate, exponent,
-/// stated length of aggregates and windows. Only a sleeping station has a credit. CoDel's count is at least
-/// 1 while it drops, and CoDel's counts fit 32 bits (specs/Ranges).
+/// stated length of aggregates and windows. The setting `legacy` allows its rate. Only a sleeping station has
+/// a credit. CoDel's count is at least 1 while it drops, and CoDel's counts fit 32 bits (specs/Ranges).
 pub fn range_law()
     ensures { (config : Config) → (history : List Entry) → IsInRange config → RangeLaw config history }
 {}
@@ -239,9 +239,10 @@ pub fn queue_deficit_law()
 {}
 
 /// After every entry, the computed charge of an open exchange is 1 to 5516 microseconds: the greatest data
-/// time, 5400, SIFS and the longest BlockAck. A class has at most eight open exchanges. The deficits and
-/// standings of live stations are between bounds that are far within 32 bits. If no frame is longer than the
-/// greatest body, the deficits of listed queues are too (specs/Numbers).
+/// time, 5400, SIFS and the longest BlockAck. With the setting `legacy` 2 it is at most 19,520: 19,200, SIFS
+/// and an Ack of DSSS. A class has at most eight open exchanges. The deficits and standings of live stations
+/// are between bounds that are far within 32 bits. If no frame is longer than the greatest body, the deficits
+/// of listed queues are too (specs/Numbers).
 pub fn number_law()
     ensures { (config : Config) → (history : List Entry) → IsInRange config → NumberLaw config history }
 {}

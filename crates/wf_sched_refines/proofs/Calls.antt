@@ -10,7 +10,8 @@ use Rattle.wf_frame.specs.declared.notes.Note.{Note}
 use Rattle.wf_frame.specs.declared.notes.Note.TheVariants.{Enqueue, Asked}
 use Rattle.wf_frame.specs.declared.notes.Refusal.{Refusal}
 use Rattle.wf_frame.specs.declared.notes.Refusal.TheVariants.{Idle}
-use Rattle.wf_frame.specs.Settings.{IsInRange}
+use Rattle.wf_frame.specs.declared.settings.Field.TheVariants.{Legacy}
+use Rattle.wf_frame.specs.Settings.{IsInRange, greatest_of}
 use Rattle.wf_def_world.specs.World.{World, Exchange, opening, share, owed, pending_air, standing, is_live, exchange}
 use Rattle.wf_def_world.specs.CanSend.{is_ready, is_to_list, with_listings_of}
 use Rattle.wf_def_world.specs.Exchanges.{after_pick, bounds_of, picked_station}
@@ -23,7 +24,7 @@ use Rattle.wf_law_runs.specs.Windows.{OpenRises, EachOpen}
 use Rattle.wf_law_runs.proofs.Common.Picked.{picked_world}
 use Rattle.wf_law_runs.proofs.Deficits.Configs.{config_run}
 use Rattle.wf_law_runs.proofs.Deficits.KeptStep.{NoRow, no_row}
-use Rattle.wf_law_runs.proofs.Deficits.Numbers.{number_law}
+use Rattle.wf_law_runs.proofs.Deficits.Numbers.{deficit_within, number_law}
 use Rattle.wf_sched.specs.ClassRotas.{SchedValue, deficit, after_join, after_station_left}
 use Rattle.wf_sched_refines.specs.Standing.{SchedulerStandsFor, LeavesRotas, everywhere, with_deficit_charged, with_paid_back, with_pending_paid_back, with_weight, uncovered_air}
 use Rattle.wf_sched_refines.specs.Calls.{HasPickedInClass, HasPulled, with_charge_of, IsCallDone, IsIdlePull, IsRefused, with_concerned}
@@ -217,7 +218,9 @@ module _ (history : List Entry) (w : World) (v : SchedValue) (fits : NumbersFit 
       let here : part s c x ≤ owed s c w.opened = owed_part w.opened x e s c known in
       let own : part s c x ≡ x.charge = part_own x in
       let stands : deficit v c s ≡ standing w s c = h.deficits s c is in
-      let most : (share w s c).deficit ≤ℤ greatest_deficit = (fits.deficits s c is).1 in
+      let most : (share w s c).deficit ≤ℤ greatest_deficit w.config.legacy = (fits.deficits s c is).1 in
+      let few : greatest_deficit w.config.legacy ≤ℤ greatest_deficit (greatest_of Legacy) =
+      deficit_within w.config.legacy in
       omega (arith, ints)
 
 -- ---- the worlds of a run

@@ -3,13 +3,14 @@
 use Rattle.std.proofs.Common.{◌≡◌, ◌≢◌, refl, ap, sym, ◌∙◌, subst, arith, ℕ, zero, suc, ◌+◌, ◌*◌, ◌<◌, ◌≤◌, max, ℤ, pos, ◌+ℤ◌, ◌-ℤ◌, ◌≤ℤ◌, Bool, true, false, if◌then◌else◌, List, [], ◌∷◌, ◌++◌, Option, Some, None, is_some, IfSome, option_map, not, ◌&&◌, find, ◌==◌, eq-eqb, inl, inr, min, ◌-◌}
 use Rattle.std.proofs.lemmas.Int.{ints}
 use Rattle.std.proofs.Math.Nat.{le-max_left, le-max_right}
-use Rattle.std.proofs.lemmas.Bool.{cases_eq, eqb-true, or_parts, and_parts, not_from_true}
+use Rattle.std.proofs.lemmas.Bool.{le-leb, cases_eq, eqb-true, or_parts, and_parts, not_from_true}
 use Rattle.wf_frame.specs.declared.settings.Config.{Config}
 use Rattle.wf_frame.specs.declared.classes.Class.{Class}
 use Rattle.wf_frame.specs.declared.classes.Class.TheVariants.{Bk, Be, Vi, Vo}
 use Rattle.wf_def_lists.specs.Table.{has}
 use Rattle.wf_def_rotation.specs.Rotation.{Rotation, without_key, with_new_key, with_key_listed, has_key, in_order, Picked, need_of}
-use Rattle.wf_def_air.specs.Airtime.{IsRate}
+use Rattle.wf_def_air.specs.Airtime.{lowest_rate}
+use Rattle.wf_def_world.specs.Rates.{IsRateWith}
 use Rattle.wf_def_world.specs.World.{Exchange, owed, owed_by_all}
 use Rattle.wf_frame.specs.Classes.{class_number, same_class}
 use Rattle.wf_frame.specs.Settings.{IsInRange}
@@ -21,6 +22,10 @@ use Rattle.wf_law_runs.proofs.Deficits.Books.{each_upd, others_upd, upd_other, e
 use Rattle.wf_law_runs.proofs.Deficits.BookSteps.{with_opened, without, charge_share, with_charge, off, all_off, fresh_account, pay_share, paid, all_paid, after, spare, reweighed, with_weight}
 use Rattle.wf_law_runs.proofs.Deficits.Openings.{Every, every_map, every_append, every_filter, Rising, rising_append, rising_filter, many, many-more, many-other, many-filter, part_of, reserved, reserved-append, reserved-filter, reserved-ended, reserved_most, owed-filter, owed-append, owed_of, owed-ended, owed-none, owed_all-filter, owed_all-append, owed_most}
 use Rattle.wf_law_runs.proofs.Deficits.Bounds.{counted, IsBounded, paid_least, bounded_pay, bounded_open, bounded_less, bounded_charge, bounded_fresh, bounded_lowered}
+
+-- Each setting `legacy` allows the lowest rate.
+pub lowest_allowed : (legacy : ℕ) → IsRateWith legacy lowest_rate
+lowest_allowed legacy = le-leb 0 legacy (omega arith)
 
 -- The invariant of an open exchange.
 pub record IsOpen (b : Books) (x : Exchange) : Type 0 where
@@ -41,7 +46,7 @@ counted_in config s c opened = counted config (owed s c opened)
 -- The invariant of a live station's account.
 pub record IsGood (config : Config) (opened : List Exchange) (s : ℕ) (a : Account) : Type 0 where
   pub weight : 0 < a.weight
-  pub rate : IsRate a.rate
+  pub rate : IsRateWith config.legacy a.rate
   pub bounds : (c : Class) → IsBounded config c (at_stake config s c opened) (counted_in config s c opened)
       a.weight (a.shares c)
 
@@ -224,7 +229,7 @@ kept_fresh b s weight i some dead = record {
   goods = each_upd (λ y o. IfSome o (IsGood b.config b.opened y)) b.accounts s _ i.goods
       (record {
         weight = some;
-        rate = refl;
+        rate = lowest_allowed b.config.legacy;
         bounds =
             λ c. bounded_fresh b.config c (at_stake b.config s c b.opened) (counted_in b.config s c b.opened)
             weight (omega (arith, i.range.quantum.0)) some (at_stake_most b i s c)

@@ -16,7 +16,7 @@ use Rattle.wf_frame.specs.declared.notes.Refusal.TheVariants.{Idle}
 use Rattle.wf_def_lists.specs.Table.{at, with_member}
 use Rattle.wf_def_rotation.specs.Rotation.{with_key_listed, has_key, need_of}
 use Rattle.wf_def_lists.specs.Bounds.{greatest_air, deepest_deficit}
-use Rattle.wf_def_air.specs.Airtime.{IsRate}
+use Rattle.wf_def_world.specs.Rates.{IsRateWith}
 use Rattle.wf_def_world.specs.World.{World, Station, Exchange, no_share, no_station, station, share, rotation, is_live, exchange, owed, owed_by_all, with_exchange, with_rotation, on_receiver, on_tid, on_station, with_station, on_share, opening, standing}
 use Rattle.wf_law_rules.proofs.Lemmas.Numbers.{le_no}
 use Rattle.wf_frame.specs.Classes.{class_number, all_classes}
@@ -37,7 +37,7 @@ use Rattle.wf_law_runs.proofs.Deficits.Books.{Account, account, core, Books, boo
 use Rattle.wf_law_runs.proofs.Deficits.BookSteps.{books_after_turn, books_prepared, books_sent, books_ended, books_gone, books_enqueued, receive_share, books_received, books_reaped, books_slept, books_woken, books_credited, rated, books_with_rate, books_joined, books_after_pick, books_stated, books_stopped, books_started, books_flushed, books_offloaded, books_weighed, books_joined_plain, books_held, books_begun, books_freed, books_ceased}
 use Rattle.wf_law_runs.proofs.Deficits.Openings.{Every, every_map, every_find, only_one, many, many-count, many-core, owed-core, owed_all-core, owed_most}
 use Rattle.wf_law_runs.proofs.Deficits.Bounds.{counted, IsBounded, bounded_receive}
-use Rattle.wf_law_runs.proofs.Deficits.Kept.{IsOpen, at_stake, counted_in, IsGood, IsKept, standing_of, need_in, some_map, if_same, kept_on, kept_add, at_stake_most, kept_fresh, kept_gone, within_opened, kept_opened, kept_ended, IsPick, kept_after, above_after, kept_weighed}
+use Rattle.wf_law_runs.proofs.Deficits.Kept.{lowest_allowed, IsOpen, at_stake, counted_in, IsGood, IsKept, standing_of, need_in, some_map, if_same, kept_on, kept_add, at_stake_most, kept_fresh, kept_gone, within_opened, kept_opened, kept_ended, IsPick, kept_after, above_after, kept_weighed}
 use Rattle.wf_law_runs.proofs.Deficits.LongestCharge.{charge_most, charge_some}
 
 -- ---- a call that is not refused
@@ -232,13 +232,14 @@ may_send w c s i h off won =
           (if_same _ _ ((books w).accounts s) (need_is w c s) (λ a _ e. winner.given ∙ e));
     })
 
--- The rate of a station is in the standard's tables, also if the station does not exist.
-rate_kept : (v : World) (s : ℕ) → IsKept (books v) → IsRate (station v s).rate
+-- The rate of a station is in the standard's tables, and the setting `legacy` allows it, also if the station
+-- does not exist.
+pub rate_kept : (v : World) (s : ℕ) → IsKept (books v) → IsRateWith v.config.legacy (station v s).rate
 rate_kept v s i = go (at None v.stations s) (i.goods s)
   where
     go : (o : Option Station) → IfSome (option_map account o) (IsGood v.config (map core v.opened) s) →
-        IsRate (unwrap_or o no_station).rate
-    go None g = refl
+        IsRateWith v.config.legacy (unwrap_or o no_station).rate
+    go None g = lowest_allowed v.config.legacy
     go (Some x) g = g.rate
 
 -- A pull may fill an aggregate for no more than the greatest time of its class.

@@ -1,7 +1,7 @@
 -- Proves that the weight, rate, exponent, stated length of aggregates, sleep and credit of each live station
 -- stay in their ranges, in every world of a run. By cases of the call.
 use Rattle.std.proofs.Common.{◌≡◌, refl, sym, ◌∙◌, ap, ℕ, zero, suc, ◌-◌, ◌≤◌, ◌==◌, not, nat_le, nat_lt, Bool, true, false, if◌then◌else◌, List, [], ◌∷◌, length, Option, Some, None, option_map, unwrap_or, IfSome}
-use Rattle.std.proofs.lemmas.Bool.{not-false}
+use Rattle.std.proofs.lemmas.Bool.{not-false, and_parts}
 use Rattle.wf_frame.specs.declared.settings.Config.{Config}
 use Rattle.wf_frame.specs.declared.classes.Class.{Class}
 use Rattle.wf_frame.specs.declared.classes.Fate.{Fate}
@@ -13,7 +13,8 @@ use Rattle.wf_frame.specs.declared.notes.Refusal.{Refusal}
 use Rattle.wf_frame.specs.declared.notes.Refusal.TheVariants.{Idle}
 use Rattle.wf_frame.specs.Classes.{all_classes}
 use Rattle.wf_def_lists.specs.Table.{at, upto}
-use Rattle.wf_def_air.specs.Airtime.{Rate as Airtime_rate, IsRate}
+use Rattle.wf_def_air.specs.Airtime.{Rate as Airtime_rate, IsRate, is_rate}
+use Rattle.wf_def_world.specs.Rates.{rate_asked}
 use Rattle.wf_def_codel.specs.Codel.{Item}
 use Rattle.wf_def_rotation.specs.Rotation.{in_order}
 use Rattle.wf_def_agreement.specs.Session.{Session, End, request_due}
@@ -450,7 +451,7 @@ kept_done (Asked (Leave s)) w e h = kept_gone w s h
 kept_done (Asked (Rate s rate)) w e h =
     set_station w s _ (λ x _ k. record {
       weight = k.weight;
-      rate = not-false _ e.1.0;
+      rate = (and_parts (is_rate (rate_asked rate)) _ (not-false _ e.1.0)).0;
       exponent = k.exponent;
       ampdu = k.ampdu;
       credit = k.credit;

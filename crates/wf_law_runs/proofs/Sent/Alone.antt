@@ -1,15 +1,15 @@
 -- Proves that each frame alone fits an aggregate: each station takes an aggregate of one, and the greatest
--- body with its encryption takes at most 3000 microseconds at every rate.
+-- body with its encryption takes at most the time that a frame alone may take at its rate.
 use Rattle.std.proofs.Common.{◌≡◌, arith, ℕ, ◌+◌, ◌-◌, ◌^◌, ◌≤◌, nat_le, max, true, [], ◌∷◌, Option, Some, None, IfSome, unwrap_or}
 use Rattle.std.proofs.lemmas.Bool.{and_from, le-leb}
 use Rattle.std.proofs.Math.Nat.{pow-le-pow_right, le-max_right}
 use Rattle.wf_def_lists.specs.Bounds.{least_ampdu}
 use Rattle.wf_def_lists.specs.Lengths.{greatest_body, greatest_overhead}
-use Rattle.wf_def_air.specs.Airtime.{Rate, Ht, Vht, He, IsRate, data_time}
+use Rattle.wf_def_air.specs.Airtime.{Rate, Ht, Vht, He, Ofdm, Dsss, IsRate, data_time}
 use Rattle.wf_def_air.proofs.Times.{single_time}
-use Rattle.wf_def_air.specs.Fit.{subframe_octets, most_octets, longest_alone}
+use Rattle.wf_def_air.specs.Fit.{subframe_octets, most_octets, alone_at}
 use Rattle.wf_def_world.specs.World.{World, Mpdu, station}
-use Rattle.wf_def_world.specs.Exchanges.{most_frames, fits_in}
+use Rattle.wf_def_world.specs.Exchanges.{takes_one, most_frames, fits_in}
 use Rattle.wf_law_rules.proofs.Lemmas.Numbers.{on_if}
 
 -- The longest aggregate that a station takes has room for the greatest body with its encryption.
@@ -18,20 +18,25 @@ some_stated : (o : Option ℕ) (octets : ℕ) → IfSome o (λ n. least_ampdu �
 some_stated None octets h k = k
 some_stated (Some n) octets h k = h
 
+some_short : (exponent : ℕ) → least_ampdu ≤ 2 ^ (13 + exponent) - 1
+some_short exponent = let least : 2 ^ 13 ≤ 2 ^ (13 + exponent) =
+    pow-le-pow_right {n = 2} (omega arith) {i = 13} {j = 13 + exponent} (omega arith) in omega (arith, least)
+
 some_octets : (r : Rate) (exponent : ℕ) (o : Option ℕ) → IfSome o (λ n. least_ampdu ≤ n) →
     least_ampdu ≤ most_octets r exponent o
-some_octets (Ht mcs mhz short) exponent o h = let least : 2 ^ 13 ≤ 2 ^ (13 + exponent) =
-    pow-le-pow_right {n = 2} (omega arith) {i = 13} {j = 13 + exponent} (omega arith) in omega (arith, least)
+some_octets (Ht mcs mhz short) exponent o h = some_short exponent
 some_octets (Vht mcs mhz short n) exponent o h = let least : 2 ^ 17 ≤ 2 ^ (17 + exponent) =
     pow-le-pow_right {n = 2} (omega arith) {i = 17} {j = 17 + exponent} (omega arith) in
     some_stated o (2 ^ (17 + exponent) - 1) h (omega (arith, least))
 some_octets (He mcs mhz guard n) exponent o h = let least : 2 ^ 17 ≤ 2 ^ (17 + exponent) =
     pow-le-pow_right {n = 2} (omega arith) {i = 17} {j = 17 + exponent} (omega arith) in
     some_stated o (2 ^ (17 + exponent) - 1) h (omega (arith, least))
+some_octets (Ofdm mbps) exponent o h = some_short exponent
+some_octets (Dsss half) exponent o h = some_short exponent
 
 -- A pull may send one frame.
 pub some_most : (w : World) (s : ℕ) → 1 ≤ w.bounds.frames → 1 ≤ most_frames w s
-some_most w s frames = on_if (λ (n : ℕ). 1 ≤ n) (station w s).asleep 1 w.bounds.frames
+some_most w s frames = on_if (λ (n : ℕ). 1 ≤ n) (takes_one (station w s)) 1 w.bounds.frames
     (λ _. omega arith) (λ _. frames)
 
 pub fits_alone : (w : World) (s : ℕ) (m : Mpdu) → 1 ≤ w.bounds.frames →
@@ -42,7 +47,7 @@ fits_alone w s m frames overhead is stated short =
     let octets : ℕ = subframe_octets (m.len + w.config.overhead) in
     let most : ℕ = most_octets r (station w s).exponent (station w s).ampdu in
     let one : 1 ≤ most_frames w s = some_most w s frames in
-    let time : data_time r octets ≤ 3000 = single_time r octets is (omega (arith, short, overhead)) in
+    let time : data_time r octets ≤ alone_at r = single_time r octets is (omega (arith, short, overhead)) in
     and_from (nat_le 1 (most_frames w s)) _ (le-leb 1 (most_frames w s) one)
     (and_from (nat_le octets most) _
     (le-leb octets most (omega (
@@ -52,5 +57,5 @@ fits_alone w s m frames overhead is stated short =
       some_octets r (station w s).exponent
           (station w s).ampdu stated,
     )))
-    (le-leb (data_time r octets) (max w.bounds.air longest_alone)
-    (omega (arith, time, le-max_right w.bounds.air longest_alone))))
+    (le-leb (data_time r octets) (max w.bounds.air (alone_at r))
+    (omega (arith, time, le-max_right w.bounds.air (alone_at r)))))

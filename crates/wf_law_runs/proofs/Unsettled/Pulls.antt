@@ -10,7 +10,7 @@ use Rattle.wf_frame.specs.declared.notes.Note.TheVariants.{Asked}
 use Rattle.wf_frame.specs.Classes.{class_of, lower_tid, upper_tid}
 use Rattle.wf_def_world.specs.World.{World, Bounds, Exchange, session, is_live, share, station}
 use Rattle.wf_def_world.specs.CanSend.{can_send, can_send_in}
-use Rattle.wf_def_world.specs.Exchanges.{Prepared, mpdus_of, most_frames, limited, picked_station, first_tid, other_tid, sending_tid, after_tid_turn, prepared_exchange, exchange_of, with_exchange_opened}
+use Rattle.wf_def_world.specs.Exchanges.{Prepared, mpdus_of, takes_one, most_frames, limited, picked_station, first_tid, other_tid, sending_tid, after_tid_turn, prepared_exchange, exchange_of, with_exchange_opened}
 use Rattle.wf_def_world.specs.Refusals.{refusals, open_of_class}
 use Rattle.wf_def_world.specs.Step.{send_outcome, pull_outcome_for, pull_outcome}
 use Rattle.wf_law_rules.proofs.Lemmas.Numbers.{on_bool, on_if, both, eq_yes, le_no}
@@ -139,7 +139,7 @@ few_pulled_by config (Some s) w c ready l some frames below i =
     let v : World = after_tid_turn w s c t in
     let k : Same w v = same_after_turn w s c t in
     few_sent config v s t c (lawful_same w v k l) (k.live s ∙ ready.0) (sending_class w s c)
-    (frames_few (station v s).asleep v.bounds.frames config.agg some
+    (frames_few (takes_one (station v s)) v.bounds.frames config.agg some
     (subst (λ (b : Bounds). b.frames ≤ config.agg) (sym (bounds_after_turn w s c t)) frames))
     (subst (λ (xs : List Exchange). many c xs < config.inflight) (sym k.opened) below)
     (few_kept config w v (keeps_same w v k) i)
