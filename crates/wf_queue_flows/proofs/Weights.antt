@@ -25,11 +25,13 @@ module _ (v : FlowsValue) (i k : ℕ) where
 
   pub weighed-next : is_listed v i k ≡ true → octets_below v i k + octets_at v k ≡ octets_below v i (k + 1)
   unfolding before
-  weighed-next holds = sym (ap (octets_below v i) next ∙ ap (sum_by (octets_at v)) (upto-more (is_listed v i) k
+  weighed-next holds = sym (ap (octets_below v i) next
+      ∙ ap (sum_by (octets_at v)) (upto-more (is_listed v i) k
       ∙ ap (λ (ks : List ℕ). before ++ ks) (one_passes (is_listed v i) k holds))
       ∙ sum_by_push (octets_at v) before k)
 
   pub weighed-same : is_listed v i k ≡ false → octets_below v i k ≡ octets_below v i (k + 1)
   unfolding before
-  weighed-same fails = sym (ap (octets_below v i) next ∙ ap (sum_by (octets_at v)) (upto-more (is_listed v i) k
+  weighed-same fails = sym (ap (octets_below v i) next
+      ∙ ap (sum_by (octets_at v)) (upto-more (is_listed v i) k
       ∙ ap (λ (ks : List ℕ). before ++ ks) (one_fails (is_listed v i) k fails) ∙ append-nil before))

@@ -197,8 +197,8 @@ impl Codel {
         }
     }
 
-    /// Returns whether it drops: frames have waited longer than the target for an interval (`dropping_` of RFC
-    /// 8289).
+    /// Returns whether it drops: frames have waited longer than the target for an interval (`dropping_` of
+    /// RFC 8289).
     pub fn is_dropping(&self) -> bool
         ensures { result ≡ self.now.dropping }
     {

@@ -12,8 +12,8 @@
 //! ```
 //!
 //! A `Flows` holds a `Backlog`: the numbered queues, each with a CoDel state, and the list of the finished
-//! frames, with one shared room. It finds the longest queue when the limit asks for it. CoDel itself, over any
-//! lane of frames, is the module `codel`.
+//! frames, with one shared room. It finds the longest queue when the limit asks for it. CoDel itself, over
+//! any lane of frames, is the module `codel`.
 #![tactic(auto)]
 
 ghost use Rattle.std.specs.Prelude.{◌≡◌, ℕ};

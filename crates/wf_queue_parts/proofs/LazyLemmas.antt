@@ -163,7 +163,7 @@ module _ (tree values : List ℕ) (flags : List Bool) (pending rest : List ℕ) 
             ∙ ap (slice_index pending) (omega (arith, end, at.1, one_more)) ∙ at_end))
       ]
 
--- ---- a leaf becomes pending in the place of another
+-- ---- a leaf becomes pending instead of another
 
 module _ (tree values : List ℕ) (flags : List Bool) (pending : List ℕ) (leaf value place oldest : ℕ)
     (h : IsLazy tree values flags pending) (here : leaf < length values) (at : place < length pending)

@@ -1,4 +1,4 @@
--- Defines which leaves of a tournament tree are behind their values. The representation is this crate's; no
+-- Defines which leaves of a tournament tree lack their newest values. The representation is this crate's; no
 -- document defines it.
 use Rattle.std.specs.Prelude.{◌≡◌, ℕ, ◌<◌, ◌≤◌, Bool, true, false, List, length, slice_index, slice_index_or}
 

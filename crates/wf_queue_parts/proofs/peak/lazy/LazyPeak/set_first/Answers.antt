@@ -1,4 +1,4 @@
--- The leaf is on the list, at its end or in the place of the oldest, which the tree then has.
+-- The leaf is on the list, at its end or instead of the oldest, whose value the tree then has.
 use Rattle.std.proofs.Common.{◌≡◌, ◌∙◌, ◌<◌, ℕ, List, length, ap, arith}
 use Rattle.std.specs.Prelude.{slice_index, slice_set}
 use Rattle.std.proofs.lemmas.List.{get_or_read}
