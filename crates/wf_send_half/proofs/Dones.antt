@@ -24,7 +24,7 @@ use Rattle.wf_frame.specs.Settings.{is_bad_air}
 use Rattle.wf_def_world.specs.Step.{done_outcome}
 use Rattle.wf_law_runs.specs.Windows.{EachMpdu, EachOpen}
 use Rattle.wf_law_runs.specs.Numbers.{greatest_computed}
-use Rattle.wf_law_runs.proofs.Deficits.Numbers.{number_law}
+use Rattle.wf_law_runs.proofs.Deficits.Numbers.{legacy_within, number_law}
 use Rattle.wf_send_parts.specs.declared.exchanges.opened.Open.{Open}
 use Rattle.wf_send_parts.specs.Exchanges.{has_nothing_sent as nothing_sent}
 use Rattle.wf_send_parts.specs.declared.stations.members.Member.{Member}
@@ -294,17 +294,19 @@ module _ (v : TransmitValue) (some : HasWorld v) (e : ℕ) (o : Open)
   charge_few : (air : Option ℕ) → is_bad_air v.config air ≡ false → unwrap_or air o.charge < 2 ^ 32
   charge_few air fine =
       let r = some.stands.reached in
-      let each : EachOpen (λ y. (1 ≤ y.charge) × (y.charge ≤ greatest_computed)) some.world.opened =
-      by_law (λ u. EachOpen (λ y. (1 ≤ y.charge) × (y.charge ≤ greatest_computed)) u.opened) some.world r
+      let legacy : ℕ = some.world.config.legacy in
+      let each : EachOpen (λ y. (1 ≤ y.charge) × (y.charge ≤ greatest_computed legacy)) some.world.opened =
+      by_law (λ u. EachOpen (λ y. (1 ≤ y.charge) × (y.charge ≤ greatest_computed u.config.legacy)) u.opened)
+      some.world r
       (λ m. (number_law some.world.config r.history r.in_range m).charges) in
-      let few = found (λ y. (1 ≤ y.charge) × (y.charge ≤ greatest_computed)) some.world.opened e
+      let few = found (λ y. (1 ≤ y.charge) × (y.charge ≤ greatest_computed legacy)) some.world.opened e
       it.exchange_is
       it.known each in
       named_few v.config air o.charge fine (omega (
         arith,
         ap (λ (k : Config). k.charge) some.stands.parts.others.config,
         r.in_range.charge.1,
-      )) (omega (arith, ap (λ (k : Open). k.charge) it.same, few.1))
+      )) (omega (arith, ap (λ (k : Open). k.charge) it.same, few.1, legacy_within legacy))
 
   -- the airtime that was charged when it opened may be paid back
   pub pay_back_low : (is_on : Bool) → is_on ≡ (v.config.pending == 1) → is_on ≡ true →

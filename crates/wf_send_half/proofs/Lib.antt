@@ -35,3 +35,4 @@ mod Tracked
 pub mod Kept
 pub mod Sends
 pub mod Times
+mod Weighed

@@ -1,5 +1,7 @@
 -- Proves the refusals row by row: a test of the half refuses exactly if the test of the world does.
-use Rattle.std.proofs.Common.{◌≡◌, refl, ap, sym, ◌∙◌, ℕ, Bool, true, false, not, pos, ◌-ℤ◌, ◌<◌, ◌==◌, ◌&&◌, List, [], ◌∷◌, ◌++◌, Option, Some, None, if◌then◌else◌, is_some}
+use Rattle.std.proofs.Common.{◌≡◌, refl, ap, ap₂, sym, ◌∙◌, ℕ, Bool, true, false, not, pos, ◌-ℤ◌, ◌<◌, ◌==◌, ◌&&◌, ◌||◌, List, [], ◌∷◌, ◌++◌, Option, Some, None, if◌then◌else◌, is_some, option_map}
+use Rattle.std.specs.List.{list_any, list_all}
+use Rattle.std.proofs.lemmas.Bool.{and_parts, ltb-true}
 use Rattle.std.specs.Prelude.{nat_le, nat_lt, int_lt, count_by, Result, Ok, Err, IfOk, IfErr}
 use Rattle.wf_frame.specs.Frames.{FrameValue}
 use Rattle.wf_frame.specs.declared.settings.Config.{Config}
@@ -13,13 +15,19 @@ use Rattle.wf_def_lists.specs.Bounds.{greatest_air, deepest_deficit}
 use Rattle.std.specs.Result.{result_err}
 use Rattle.wf_frame.specs.declared.notes.ReplyNote.TheVariants.{Refused}
 use Rattle.wf_def_world.specs.World.{World, is_live, is_agreed, is_held_back, is_offloaded, station, share}
-use Rattle.wf_def_world.specs.Refusals.{first_refusal, is_bad_station, is_within, has_live_credit, open_of_tid, numbers_waiting, refusals, refusal}
+use Rattle.wf_def_lists.specs.Table.{upto}
+use Rattle.wf_def_air.specs.Airtime.{Rate, is_single}
+use Rattle.wf_def_world.specs.Rates.{is_rate_with}
+use Rattle.wf_def_world.specs.Refusals.{first_refusal, is_any_agreed, is_bad_station, is_within, has_live_credit, open_of_tid, numbers_waiting, refusals, refusal}
 use Rattle.wf_send_parts.specs.Members.{member, is_offloaded_in}
+use Rattle.wf_send_parts.specs.declared.stations.members.Member.{Member}
+use Rattle.wf_send_parts.specs.Modes.{is_set_in, any_set_in}
 use Rattle.wf_send_parts.specs.Window.{waits}
 use Rattle.wf_send_parts.specs.Windows.{window_of}
 use Rattle.wf_send_parts.specs.Sleepers.{sleeper}
 use Rattle.wf_send_half_model.specs.Half.{TransmitValue, is_agreed_of, is_held_back_of, has_live_credit_of}
 use Rattle.wf_send_half_model.specs.Standing.{StandsFor, Meets}
+use Rattle.wf_send_half_model.proofs.Asked.{rate_read}
 use Rattle.wf_send_half_model.proofs.Readers.{live_same, offloaded_same, tid_count_same, agreed_same, held_back_same, waiting_count_same, live_credit_same}
 use Rattle.wf_send_half_model.proofs.Meets.{refused_meets}
 
@@ -64,6 +72,19 @@ told_row_passes tell n m rows e is = row_passes (nat_lt 0 n) (nat_lt 0 n) (tell 
 
 -- ---- the tests
 
+-- two tests of the eight TIDs agree if they agree on each
+all_eight : (p q : ℕ → Bool) → ((t : ℕ) → t < 8 → p t ≡ q t) → list_any p (upto 8) ≡ list_any q (upto 8)
+all_eight p q same = go (upto 8) refl
+  where
+    below : (t : ℕ) (rest : Bool) → nat_lt t 8 && rest ≡ true → (t < 8) × (rest ≡ true)
+    below t rest h = let parts = and_parts (nat_lt t 8) rest h in (ltb-true t 8 parts.0, parts.1)
+
+    go : (ts : List ℕ) → list_all (λ t. nat_lt t 8) ts ≡ true → list_any p ts ≡ list_any q ts
+    go [] low = refl
+    go (t ∷ ts) low =
+        let here = below t (list_all (λ i. nat_lt i 8) ts) low in
+        ap₂ (λ (a b : Bool). a || b) (same t here.0) (go ts here.1)
+
 module _ (v : TransmitValue) (w : World) (bodies : ℕ → FrameValue) (h : StandsFor v w bodies) (s : ℕ) where
   pub bad_same : is_bad_station w s ≡ nat_le v.config.stations s
   bad_same = ap (λ (c : Config). nat_le c.stations s) (sym h.parts.others.config)
@@ -104,6 +125,22 @@ module _ (v : TransmitValue) (w : World) (bodies : ℕ → FrameValue) (h : Stan
 
   pub stopped_same : is_live w s ≡ true → (station w s).stopped ≡ (sleeper v.sleepers s).stopped
   stopped_same live = sym (h.parts.others.stations.stopped s live)
+
+  -- the row about the setting `legacy`
+  pub rate_row : (r : Rate) → is_rate_with w.config.legacy r ≡ is_rate_with v.config.legacy r
+  rate_row r = ap (λ (c : Config). is_rate_with c.legacy r) (sym h.parts.others.config)
+
+  -- the rate of a live station
+  pub single_row : is_live w s ≡ true → (m : Member) → member v.members s ≡ Some m →
+      is_single (station w s).rate ≡ is_single m.rate
+  single_row live m is = ap is_single (sym (rate_read v w bodies s h.parts live m.rate
+      (ap (λ (o : Option Member). option_map (λ k. k.rate) o) is)))
+
+  -- the modes of a live station
+  pub any_row : is_live w s ≡ true → is_any_agreed w s ≡ any_set_in v.modes s
+  any_row live = all_eight (λ t. is_agreed w s t || is_held_back w s t) (is_set_in v.modes s)
+      (λ t low. ap₂ (λ (a b : Bool). a || b) (sym (agreed_same v w bodies s t h.parts live low))
+      (sym (held_back_same v w bodies s t h.parts live low)))
 
   -- the rows about a TID of a live station
   module _ (t : ℕ) (live : is_live w s ≡ true) (low : t < 8) where

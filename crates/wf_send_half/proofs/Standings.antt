@@ -6,9 +6,11 @@ use mir.Val.{to_z, of_z}
 use Rattle.wf_frame.specs.declared.classes.Class.{Class}
 use Rattle.wf_frame.specs.Frames.{FrameValue}
 use Rattle.wf_frame.specs.declared.settings.Config.{Config}
+use Rattle.wf_frame.specs.declared.settings.Field.TheVariants.{Legacy}
+use Rattle.wf_frame.specs.Settings.{greatest_of}
 use Rattle.wf_def_world.specs.World.{World, is_live, share, standing, pending_air}
 use Rattle.wf_law_runs.specs.Numbers.{least_deficit, greatest_deficit}
-use Rattle.wf_law_runs.proofs.Deficits.Numbers.{number_law}
+use Rattle.wf_law_runs.proofs.Deficits.Numbers.{number_law, deficit_within as most_within}
 use Rattle.wf_sched.specs.ClassRotas.{deficit}
 use Rattle.wf_send_parts.specs.declared.stations.members.Member.{Member}
 use Rattle.wf_send_parts.specs.Members.{is_offloaded_in}
@@ -20,29 +22,34 @@ use Rattle.wf_send_half.specs.Half.{HasWorld, HasUnheardWorld, IsLive}
 use Rattle.wf_send_half.proofs.Rows.{live_of}
 
 deficit_within : (w : World) → IsReached w → (s : ℕ) (c : Class) → is_live w s ≡ true →
-    (least_deficit ≤ℤ (share w s c).deficit) × ((share w s c).deficit ≤ℤ greatest_deficit)
+    (least_deficit ≤ℤ (share w s c).deficit) ×
+    ((share w s c).deficit ≤ℤ greatest_deficit w.config.legacy)
 deficit_within w r s c live =
     by_law (λ u. is_live u s ≡ true →
-    (least_deficit ≤ℤ (share u s c).deficit) × ((share u s c).deficit ≤ℤ greatest_deficit)) w r
+    (least_deficit ≤ℤ (share u s c).deficit) ×
+    ((share u s c).deficit ≤ℤ greatest_deficit u.config.legacy)) w r
     (λ m is. (number_law w.config r.history r.in_range m).deficits s c is) live
 
 standing_within : (w : World) → IsReached w → (s : ℕ) (c : Class) → is_live w s ≡ true →
-    (least_deficit ≤ℤ standing w s c) × (standing w s c ≤ℤ greatest_deficit)
+    (least_deficit ≤ℤ standing w s c) × (standing w s c ≤ℤ greatest_deficit w.config.legacy)
 standing_within w r s c live =
     by_law (λ u. is_live u s ≡ true →
-    (least_deficit ≤ℤ standing u s c) × (standing u s c ≤ℤ greatest_deficit)) w r
+    (least_deficit ≤ℤ standing u s c) × (standing u s c ≤ℤ greatest_deficit u.config.legacy)) w r
     (λ m is. (number_law w.config r.history r.in_range m).standings s c is) live
 
 -- an airtime between a standing and its deficit is small, as both are
-between : (d : ℤ) (n : ℕ) → least_deficit ≤ℤ (d -ℤ pos n) → d ≤ℤ greatest_deficit → n ≤ 2 ^ 31
-between d n low high = omega (arith, ints)
+between : (legacy : ℕ) (d : ℤ) (n : ℕ) → least_deficit ≤ℤ (d -ℤ pos n) → d ≤ℤ greatest_deficit legacy →
+    n ≤ 2 ^ 31
+between legacy d n low high =
+    let few : greatest_deficit legacy ≤ℤ greatest_deficit (greatest_of Legacy) = most_within legacy in
+    omega (arith, ints)
 
 module _ (v : TransmitValue) (w : World) (bodies : ℕ → FrameValue) (h : StandsFor v w bodies) (s : ℕ)
     (c : Class) (live : is_live w s ≡ true) where
   pub pending_few : pending_air_of v s c ≤ 2 ^ 31
   pending_few = subst (λ (n : ℕ). n ≤ 2 ^ 31) (sym (pending_same v w bodies s c h.parts))
-      (between (share w s c).deficit (pending_air w s c) (standing_within w h.reached s c live).0
-      (deficit_within w h.reached s c live).1)
+      (between w.config.legacy (share w s c).deficit (pending_air w s c)
+      (standing_within w h.reached s c live).0 (deficit_within w h.reached s c live).1)
 
   -- what the scheduler keeps
   pub standing_low : negsuc (2 ^ 31) ≤ℤ deficit v.sched c s
@@ -51,7 +58,10 @@ module _ (v : TransmitValue) (w : World) (bodies : ℕ → FrameValue) (h : Stan
 
   pub standing_high : deficit v.sched c s ≤ℤ pos (2 ^ 31)
   standing_high = subst (λ (d : ℤ). d ≤ℤ pos (2 ^ 31)) (sym (h.parts.others.turns.deficits s c live))
-      (let k = (standing_within w h.reached s c live).1 in omega (arith, ints, k))
+      (let k = (standing_within w h.reached s c live).1 in
+      let few : greatest_deficit w.config.legacy ≤ℤ greatest_deficit (greatest_of Legacy) =
+      most_within w.config.legacy in
+      omega (arith, ints, k, few))
 
 -- ---- sums of 64 bits
 

@@ -1,9 +1,9 @@
 -- Proves what a change of a station's weight makes of the half from what each of its steps does.
-use Rattle.std.proofs.Common.{◌≡◌, ap, ap₂, sym, ◌∙◌, subst, arith, ℕ, ◌+◌, ◌-◌, ◌*◌, ◌==◌, ◌≤◌, max, ℤ, pos, ◌-ℤ◌, Bool, true, false, if◌then◌else◌}
+use Rattle.std.proofs.Common.{◌≡◌, ap, ap₂, sym, ◌∙◌, subst, arith, ℕ, ◌+◌, ◌-◌, ◌*◌, ◌==◌, ◌≤◌, max, ℤ, pos, ◌-ℤ◌, Bool, true, false, ◌||◌, nat_le, if◌then◌else◌}
 use Rattle.std.proofs.Math.Nat.{mul-le-mul_right, max-le}
 use Rattle.wf_frame.specs.declared.settings.Config.{Config}
 use Rattle.wf_frame.specs.Settings.{IsInRange}
-use Rattle.wf_def_air.specs.Airtime.{slow_mbps, fast_mbps, sifs, answer_time, longest_answer}
+use Rattle.wf_def_air.specs.Airtime.{slow_dsss_mbps, slow_mbps, fast_mbps, sifs, answer_time, ack_time, longest_answer}
 use Rattle.wf_def_air.specs.Fit.{longest_alone}
 use Rattle.wf_def_world.specs.Exchanges.{cap_of, longest_computed}
 use Rattle.wf_frame.specs.declared.classes.Class.{Class}
@@ -61,23 +61,35 @@ cap_low config c range = go c
     go Vi = own (config.cap_vi == 0) config.cap_vi range.cap_vi.1
     go Vo = own (config.cap_vo == 0) config.cap_vo range.cap_vo.1
 
--- the time of the longest BlockAck and of the pause before it
-answer_low : (answers : ℕ) → longest_answer answers ≤ 116
-answer_low answers = go (answers == 0)
+-- the time of the longest answer and of the pause before it
+answer_low : (answers legacy : ℕ) → longest_answer answers legacy ≤ 320
+answer_low answers legacy = go (answers == 0) (nat_le legacy 1)
   where
-    go : (b : Bool) → sifs + answer_time (if b then fast_mbps else slow_mbps) true ≤ 116
-    go true = omega arith
-    go false = omega arith
+    go : (off few : Bool) → sifs + (if off || few then answer_time (if off then fast_mbps else slow_mbps) true
+        else ack_time slow_dsss_mbps) ≤ 320
+    go true few = omega arith
+    go false true = omega arith
+    go false false = omega arith
+
+-- the data time that a frame alone may take
+alone_low : (legacy : ℕ) → longest_alone legacy ≤ 19200
+alone_low legacy = go (legacy == 0) (legacy == 1)
+  where
+    go : (none one : Bool) → (if none then 3000 else (if one then 3200 else 19200)) ≤ 19200
+    go true one = omega arith
+    go false true = omega arith
+    go false false = omega arith
 
 -- the greatest charge that is computed for an exchange of a class
-computed_low : (config : Config) (c : Class) → IsInRange config → longest_computed config c ≤ 5516
+computed_low : (config : Config) (c : Class) → IsInRange config → longest_computed config c ≤ 19520
 computed_low config c range =
-    let alone : max (cap_of config c) longest_alone ≤ 5400 = max-le (cap_low config c range) (omega arith) in
-    omega (arith, alone, answer_low config.answers)
+    let alone : max (cap_of config c) (longest_alone config.legacy) ≤ 19200 =
+    max-le (omega (arith, cap_low config c range)) (alone_low config.legacy) in
+    omega (arith, alone, answer_low config.answers config.legacy)
 
 -- all exchanges of a class but one, each with the greatest charge that is computed
 pub covered_low : (config : Config) (c : Class) → IsInRange config →
-    (config.inflight - 1) * longest_computed config c ≤ 38612
+    (config.inflight - 1) * longest_computed config c ≤ 136640
 covered_low config c range =
     let few : config.inflight - 1 ≤ 7 = omega (arith, range.inflight.1) in
     let left : (config.inflight - 1) * longest_computed config c ≤ 7 * longest_computed config c =
@@ -86,9 +98,9 @@ covered_low config c range =
 
 -- the product that the half computes fits; n is the greatest charge that is computed
 pub covered_fits : (v x : TransmitValue) → x ≡ v → IsInRange x.config → (c : Class) (n : ℕ) →
-    n ≡ longest_computed v.config c → (x.config.inflight - 1) * n ≤ 38612
+    n ≡ longest_computed v.config c → (x.config.inflight - 1) * n ≤ 136640
 covered_fits v x same range c n is =
-    subst (λ (k : ℕ). (x.config.inflight - 1) * k ≤ 38612)
+    subst (λ (k : ℕ). (x.config.inflight - 1) * k ≤ 136640)
     (sym (is ∙ ap (λ (z : TransmitValue). longest_computed z.config c) (sym same)))
     (covered_low x.config c range)
 

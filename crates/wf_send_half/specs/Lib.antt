@@ -12,3 +12,4 @@ pub mod Driven
 pub mod Listed
 pub mod Flags
 pub mod Clock
+pub mod Queued

@@ -1,12 +1,12 @@
 -- Defines the states between the steps of a pull: the condition and the effect of each step.
-use Rattle.std.specs.Prelude.{◌≡◌, ℕ, ◌%◌, ◌≤◌, Bool, true, false, List, [], length, Option, None, Some, is_some, option_map, map, take, drop, IfSome, if◌then◌else◌}
+use Rattle.std.specs.Prelude.{◌≡◌, ℕ, ◌%◌, ◌≤◌, ◌||◌, Bool, true, false, List, [], length, Option, None, Some, is_some, option_map, map, take, drop, IfSome, if◌then◌else◌}
 use Rattle.wf_frame.specs.declared.classes.Class.{Class}
 use Rattle.wf_frame.specs.declared.notes.Ask.TheVariants.{Pull}
 use Rattle.wf_frame.specs.declared.notes.Note.TheVariants.{Asked}
 use Rattle.wf_frame.specs.declared.answers.Brief.TheVariants.{Send}
 use Rattle.wf_frame.specs.declared.answers.Kind.{Kind}
 use Rattle.wf_frame.specs.Frames.{FrameValue}
-use Rattle.wf_def_air.specs.Airtime.{Rate, request_charge}
+use Rattle.wf_def_air.specs.Airtime.{Rate, is_single, request_charge}
 use Rattle.wf_def_air.specs.Fit.{most_octets}
 use Rattle.wf_def_codel.specs.Codel.{Params}
 use Rattle.wf_def_codel.specs.Parameters.{params_at}
@@ -47,7 +47,7 @@ bounds_in b = record { frames = b.frames; air = b.air }
 abbrev pub size_limits_of : TransmitValue → ℕ → Bounds → Member → SizeLimits
 size_limits_of v s b m = record {
   octets = most_octets m.rate m.exponent m.ampdu;
-  frames = if (sleeper v.sleepers s).asleep then 1 else b.frames;
+  frames = if (sleeper v.sleepers s).asleep || is_single m.rate then 1 else b.frames;
   time = b.air;
 }
 
@@ -71,13 +71,6 @@ pub record HasTurn (v : TransmitValue) (s t : ℕ) : Type 0 where
   pub world : World
   pub bodies : ℕ → FrameValue
   pub turned : IsTurned v world bodies s t
-
--- in some world no request of TID t of station s is due, and the pull has these bounds
-pub record HasToFill (v : TransmitValue) (s t : ℕ) (b : Bounds) : Type 0 where
-  pub world : World
-  pub bodies : ℕ → FrameValue
-  pub to_fill : IsToFill v world bodies s t
-  pub bounds : world.bounds ≡ b
 
 -- in some world no request of TID t of station s is due, and this aggregate begins with its waiting numbers
 pub record HasChoosing (v : TransmitValue) (s t : ℕ) (room : AggregateSizeValue)

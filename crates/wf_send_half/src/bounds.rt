@@ -59,7 +59,7 @@ impl Half {
     }
 
     // Returns the limits of an aggregate to a live station in a pull with these bounds: one frame if the
-    // station sleeps.
+    // station sleeps or its rate has no aggregates.
     pub(crate) fn size_limits(&self, station: u16, bounds: Bounds) -> SizeLimits
         requires within { station < self.now.config.stations }
         requires live { IsLive self.now station }
@@ -76,7 +76,7 @@ impl Half {
         let member = self.members.member(station);
         SizeLimits {
             octets: member.rate.most_octets(member.exponent, member.ampdu),
-            frames: if self.sleepers.asleep(station) {
+            frames: if self.sleepers.asleep(station) || member.rate.is_single() {
                 1
             } else {
                 bounds.frames

@@ -279,7 +279,8 @@ impl Transmit {
         }
     }
 
-    /// Sets the rate at which a station is sent to from now on. Refused as BadStation, BadRate or NoStation.
+    /// Sets the rate at which a station is sent to from now on. Refused as BadStation, BadRate, NoStation or
+    /// Agreed.
     pub fn rate(&mut self, station: u16, asked: AskedRate) -> Result<(), Refusal>
         ensures meets { (w : World) (bodies : ℕ → FrameValue) → StandsFor self.old w bodies →
             Meets w bodies (Asked (Rate station asked)) self.new

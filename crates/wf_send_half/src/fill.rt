@@ -8,12 +8,11 @@ ghost use Rattle.wf_def_world.specs.World.{World};
 ghost use Rattle.wf_def_world.specs.Exchanges.{Aggregate as Filled, aggregate_of};
 ghost use Rattle.wf_send_half_model.specs.Filling.{IsToFill, IsChoosing, IsFilled};
 ghost use Rattle.wf_send_half.specs.Half.{IsLive};
-ghost use Rattle.wf_send_half.specs.Pulls.{bounds_in, TakesAggregates, IsSameButFrames, HasToFill, HasChoosing, AggregateGoesOn, HasFilling};
+ghost use Rattle.wf_send_half.specs.Pulls.{IsSameButFrames, HasChoosing, AggregateGoesOn, HasFilling};
 
-use crate::bounds::Bounds;
 use crate::half::Half;
 use wf_air::fit::AggregateSize;
-use wf_frame::{Cause, Fate, NARROW_WINDOW};
+use wf_frame::{Cause, Fate};
 use wf_queue_flows::Taken;
 use wf_queue_flows::codel::Params;
 use wf_send_parts::exchanges::Numbers;
@@ -37,36 +36,27 @@ fn protected(len: u16, overhead: u32) -> u16
 }
 
 impl Half {
-    /// Fills the aggregate that a TID sends next in a pull with these bounds: waiting numbers from the lowest
-    /// up, and, if all of them fit, fresh frames. Each fresh frame gets a number; none flies yet.
-    pub(crate) fn fill(&mut self, station: u16, tid: u8, bounds: Bounds) -> Aggregate
+    /// Fills an empty aggregate of at most `most` frames with the numbers that a TID sends next: waiting ones
+    /// from the lowest up, and, if all of them fit, those of fresh frames. Each fresh frame gets its number
+    /// here; none flies yet. An aggregate is large, so it is filled in place and not returned.
+    pub(crate) fn fill(&mut self, station: u16, tid: u8, most: u16, aggregate: &mut Aggregate)
         requires within { station < self.old.config.stations }
         requires tid { tid < 8 }
         requires live { IsLive self.old station }
         requires small { self.old.clock < 2 ^ 62 }
-        requires takes { TakesAggregates self.old station }
-        requires some { 1 ≤ bounds.frames }
-        requires few { bounds.frames ≤ 256 }
-        requires to_fill { HasToFill self.old station tid (bounds_in bounds) }
+        requires choosing { HasChoosing self.old station tid aggregate.old.size aggregate.old.numbers }
+        requires most { aggregate.old.size.limits.frames ≡ most }
+        requires few { most ≤ 256 }
         ensures filled { (w : World) (bodies : ℕ → FrameValue) → IsToFill self.old w bodies station tid →
-            w.bounds ≡ bounds_in bounds →
-            IsFilled self.new bodies station tid result.size result.numbers (aggregate_of w station tid) }
+            IsChoosing aggregate.old.size aggregate.old.numbers
+            (window_of self.old.windows station tid).start w station tid →
+            IsFilled self.new bodies station tid aggregate.new.size aggregate.new.numbers
+            (aggregate_of w station tid) }
         ensures same { IsSameButFrames self.old self.new }
     {
-        let limits = self.size_limits(station, bounds);
-        let mut aggregate = Aggregate {
-            numbers: Numbers::new(),
-            size: AggregateSize::new(
-                self.members.member(station).rate,
-                limits,
-                self.config.answers,
-                self.windows.at(station, tid).size() > NARROW_WINDOW,
-            ),
-        };
-        if self.add_waiting(station, tid, &mut aggregate) {
-            self.add_fresh(station, tid, limits.frames, &mut aggregate);
+        if self.add_waiting(station, tid, aggregate) {
+            self.add_fresh(station, tid, most, aggregate);
         }
-        aggregate
     }
 
     // Adds the waiting numbers up to the first that does not fit. Returns true if all fit.

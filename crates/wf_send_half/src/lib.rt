@@ -23,6 +23,7 @@ mod marks;
 mod modes;
 mod pending;
 mod pull;
+mod queues;
 mod readers;
 mod ready;
 mod refuse;

@@ -180,7 +180,11 @@ impl Half {
         refuse_where(self.members.is_offloaded(station), Refusal::Offloaded)?;
         let mode = self.modes.at(station, tid);
         refuse_where(mode.is_agreed(), Refusal::Agreed)?;
-        refuse_where(mode.is_on_hold(), Refusal::Held)
+        refuse_where(mode.is_on_hold(), Refusal::Held)?;
+        refuse_where(
+            self.members.member(station).rate.is_single(),
+            Refusal::Legacy,
+        )
     }
 
     // Checks that a TID may have an agreement with this window.

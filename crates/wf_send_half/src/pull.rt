@@ -29,6 +29,7 @@ use crate::bounds::Bounds;
 use crate::fill::Aggregate;
 use crate::half::Half;
 use crate::pending::charge_opened;
+use wf_air::fit::AggregateSize;
 use wf_frame::{Brief, Class, Kind, Limits, NARROW_WINDOW, Pairs, Refusal};
 use wf_octets::bits::Bits256;
 use wf_send_parts::exchanges::{Numbers, Open, Sending};
@@ -156,11 +157,8 @@ impl Half {
         ensures ready { result.is_ready ≡ is_ready_of self.new class station }
     {
         let exchange = self.exchanges;
-        let Prepared {
-            sending,
-            charge,
-            request,
-        } = prepared;
+        let charge = prepared.charge;
+        let request = prepared.request;
         let more = self.sleepers.asleep(station) && request.is_none() && self.has_more(station);
         let batch = self.members.is_offloaded(station);
         let plain = self.is_plain(station, tid);
@@ -170,7 +168,7 @@ impl Half {
             tid,
             class,
             charge,
-            sending,
+            sending: prepared.sending,
             more,
             batch,
             plain,
@@ -245,18 +243,27 @@ impl Half {
                 request: Some(start.raw()),
             };
         }
-        let aggregate = self.fill(station, tid, bounds);
+        let limits = self.size_limits(station, bounds);
+        let mut aggregate = Aggregate {
+            numbers: Numbers::new(),
+            size: AggregateSize::new(
+                self.members.member(station).rate,
+                limits,
+                self.config.answers,
+                self.windows.at(station, tid).size() > NARROW_WINDOW,
+            ),
+        };
+        self.fill(station, tid, limits.frames, &mut aggregate);
         let charge = self.charge_of(station, tid, &aggregate);
-        let numbers = aggregate.numbers;
-        self.fly_all(station, tid, &numbers, pairs);
+        self.fly_all(station, tid, &aggregate.numbers, pairs);
         Prepared {
-            sending: Sending::Data(numbers),
+            sending: Sending::Data(aggregate.numbers),
             charge,
             request: None,
         }
     }
 
-    // Returns the charge of an aggregate, or of one frame without an agreement, in microseconds.
+    // Returns the charge of an aggregate, or of one frame that an Ack answers, in microseconds.
     fn charge_of(&self, station: u16, tid: u8, aggregate: &Aggregate) -> u32
         requires within { station < self.now.config.stations }
         requires tid { tid < 8 }
@@ -264,7 +271,7 @@ impl Half {
         ensures { (lens : List ℕ) → SizeStandsFor aggregate.now.size lens →
             result ≡ charge_in aggregate.now.size (is_plain_of self.now station tid) lens }
     {
-        if self.is_plain(station, tid) {
+        if self.is_plain(station, tid) || aggregate.size.is_single() {
             aggregate.size.plain_air()
         } else {
             aggregate.size.air()

@@ -8,7 +8,7 @@ ghost use Rattle.wf_frame.specs.declared.notes.Refusal.TheVariants.{BadRate, Bad
 ghost use Rattle.wf_frame.specs.declared.classes.Class.TheVariants.{Bk, Be, Vi, Vo};
 ghost use Rattle.wf_def_lists.specs.Bounds.{greatest_tid, greatest_window, deepest_deficit};
 ghost use Rattle.wf_def_air.specs.Airtime.{is_rate};
-ghost use Rattle.wf_def_world.specs.Rates.{rate_asked};
+ghost use Rattle.wf_def_world.specs.Rates.{rate_asked, is_rate_with};
 ghost use Rattle.wf_def_world.specs.World.{World, share};
 ghost use Rattle.wf_def_world.specs.Refusals.{first_refusal, refusal, is_within};
 ghost use Rattle.wf_def_world.specs.Step.{class_to_send};
@@ -80,16 +80,26 @@ fn made_rate(asked: AskedRate) -> Result<Rate, wf_air::time::BadRate>
             guard,
             streams,
         } => Rate::he(mcs, mhz, guard, streams),
+        AskedRate::Ofdm { mbps } => Rate::ofdm(mbps),
+        AskedRate::Dsss { half_mbps } => Rate::dsss(half_mbps),
     }
 }
 
-// Returns the rate of these numbers, or refuses them.
-fn rate_of(asked: AskedRate) -> Result<Rate, Refusal>
-    ensures refused { result_err result ≡ (if not (is_rate (rate_asked asked)) then Some BadRate else None) }
+// Returns the rate of these numbers, or refuses them if there is none or the setting `legacy` does not allow
+// it.
+fn rate_of(asked: AskedRate, legacy: u32) -> Result<Rate, Refusal>
+    ensures refused { result_err result ≡ (if not (is_rate_with legacy (rate_asked asked))
+        then Some BadRate else None) }
     ensures rate { IfOk result (λ rate. rate ≡ rate_asked asked) }
 {
     match made_rate(asked) {
-        Ok(rate) => Ok(rate),
+        Ok(rate) => {
+            if rate.legacy() <= legacy {
+                Ok(rate)
+            } else {
+                Err(Refusal::BadRate)
+            }
+        }
         Err(_) => Err(Refusal::BadRate),
     }
 }
@@ -244,8 +254,12 @@ impl Half {
         ensures within { IfOk result (λ _. station < self.now.config.stations) }
     {
         self.in_range(station)?;
-        let rate = rate_of(asked)?;
+        let rate = rate_of(asked, self.config.legacy)?;
         self.live(station)?;
+        refuse_where(
+            rate.is_single() && self.modes.any_set(station),
+            Refusal::Agreed,
+        )?;
         Ok(rate)
     }
 

@@ -63,6 +63,6 @@ impl Half {
     fn longest_computed(&self, class: Class) -> u32
         ensures { result ≡ longest_computed self.now.config class }
     {
-        longest_charge(self.cap(class), self.config.answers)
+        longest_charge(self.cap(class), self.config.answers, self.config.legacy)
     }
 }

@@ -1,6 +1,6 @@
 -- Proves that a pull reads the same values from a half as from its world, and that the half refuses a pull
 -- exactly if the machine does.
-use Rattle.std.proofs.Common.{◌≡◌, refl, ap, ap₂, sym, ◌∙◌, subst, arith, ℕ, ◌+◌, ◌-◌, ◌<◌, Bool, true, false, if◌then◌else◌, [], ◌∷◌, length, Option, Some, None, is_some, is_none, option_map, unwrap_or}
+use Rattle.std.proofs.Common.{◌||◌, ◌≡◌, refl, ap, ap₂, sym, ◌∙◌, subst, arith, ℕ, ◌+◌, ◌-◌, ◌<◌, Bool, true, false, if◌then◌else◌, [], ◌∷◌, length, Option, Some, None, is_some, is_none, option_map, unwrap_or}
 use Rattle.std.specs.Prelude.{nat_le, IfSome, count_by}
 use Rattle.wf_frame.specs.declared.classes.Class.{Class}
 use Rattle.wf_frame.specs.Classes.{lower_tid, upper_tid, same_class, tid_number}
@@ -10,14 +10,14 @@ use Rattle.wf_frame.specs.declared.notes.Limits.{Limits}
 use Rattle.wf_frame.specs.declared.notes.Refusal.{Refusal}
 use Rattle.wf_frame.specs.declared.notes.Refusal.TheVariants.{Full, Ahead, Idle}
 use Rattle.wf_frame.specs.Frames.{FrameValue}
-use Rattle.wf_def_air.specs.Airtime.{Rate}
+use Rattle.wf_def_air.specs.Airtime.{Rate, is_single}
 use Rattle.wf_def_air.specs.Fit.{most_octets}
 use Rattle.wf_def_codel.specs.Codel.{Params}
 use Rattle.wf_def_codel.specs.Parameters.{params_at}
 use Rattle.wf_def_lists.specs.Table.{at}
 use Rattle.wf_def_world.specs.World.{World, Bounds, Station, no_station, is_live, station, share, rotation, codel_params, owed_by_all}
 use Rattle.wf_def_world.specs.CanSend.{can_send, can_send_in, is_ready}
-use Rattle.wf_def_world.specs.Exchanges.{most_frames, station_need, picked_station, sending_tid}
+use Rattle.wf_def_world.specs.Exchanges.{takes_one, most_frames, station_need, picked_station, sending_tid}
 use Rattle.wf_def_world.specs.Refusals.{open_of_class, is_at_aql_total, first_refusal, refusal}
 use Rattle.wf_def_rotation.specs.Rotation.{has_key}
 use Rattle.wf_law_rules.proofs.Lemmas.Counts.{listed-none}
@@ -58,7 +58,7 @@ read_member f g same (Some m) (Some x) h live k e = let is : f m ≡ k = cc in s
 module _ (v : TransmitValue) (w : World) (bodies : ℕ → FrameValue) (s : ℕ) (h : Parts v w bodies)
     (live : is_live w s ≡ true) (rate : Rate)
     (rate_is : option_map (λ m. m.rate) (member v.members s) ≡ Some rate) where
-  rate_read : rate ≡ (station w s).rate
+  pub rate_read : rate ≡ (station w s).rate
   rate_read = read_member (λ m. m.rate) (λ x. x.rate) (λ m x k. k.rate) (member v.members s)
       (at None w.stations s) (h.others.stations.live s) live rate rate_is
 
@@ -86,7 +86,7 @@ pub room_read : (v : TransmitValue) (w : World) (bodies : ℕ → FrameValue) (s
     w.bounds ≡ b →
     empty_size m.rate (record {
       octets = most_octets m.rate m.exponent m.ampdu;
-      frames = if (sleeper v.sleepers s).asleep then 1 else b.frames;
+      frames = if (sleeper v.sleepers s).asleep || is_single m.rate then 1 else b.frames;
       time = b.air;
     }) v.config.answers (is_wide_of v s t) ≡ room_for w s t
 room_read v w bodies s h live m is t low b bounds =
@@ -94,11 +94,14 @@ room_read v w bodies s h live m is t low b bounds =
     let k : IsMember m x = member_read m (member v.members s) (at None w.stations s)
     (h.others.stations.live s) live is in
     let wide : Bool = is_wide_of v s t in
-    let frames : ℕ = if (sleeper v.sleepers s).asleep then 1 else b.frames in
-    ap₂ (λ (r : Rate) (n : ℕ). sized r n m.ampdu frames b.air v.config.answers wide) k.rate k.exponent
-    ∙ ap₂ (λ (o : Option ℕ) (p : Bool). sized x.rate x.exponent o (if p then 1 else b.frames) b.air
+    ap₂ (λ (r : Rate) (n : ℕ). sized r n m.ampdu
+    (if (sleeper v.sleepers s).asleep || is_single r then 1 else b.frames) b.air v.config.answers wide) k.rate
+    k.exponent
+    ∙ ap₂ (λ (o : Option ℕ) (p : Bool). sized x.rate x.exponent o
+    (if p || is_single x.rate then 1 else b.frames) b.air
     v.config.answers wide) k.ampdu (h.others.stations.asleep s live)
-    ∙ ap₂ (λ (c : Bounds) (n : ℕ). sized x.rate x.exponent x.ampdu (if x.asleep then 1 else c.frames) c.air n
+    ∙ ap₂ (λ (c : Bounds) (n : ℕ). sized x.rate x.exponent x.ampdu
+    (if takes_one x then 1 else c.frames) c.air n
     wide) (sym bounds) (ap (λ c. c.answers) h.others.config)
     ∙ ap (sized x.rate x.exponent x.ampdu (most_frames w s) w.bounds.air w.config.answers)
     (wide_same v w bodies s t h live low)

@@ -1,11 +1,11 @@
 -- Proves that fresh frames get numbers, one after the other, while they fit, as in the world's loop. One
 -- round takes a frame, gives it the next number, and either adds it to the aggregate or ends the aggregate.
-use Rattle.std.proofs.Common.{◌≡◌, refl, ap, ap₂, sym, ◌∙◌, subst, arith, ℕ, zero, suc, ◌+◌, ◌-◌, ◌<◌, ◌≤◌, Bool, true, false, not, if◌then◌else◌, List, [], ◌∷◌, ◌++◌, map, length, length-append, Option, Some, None, option_map, unwrap_or}
+use Rattle.std.proofs.Common.{◌||◌, ◌≡◌, refl, ap, ap₂, sym, ◌∙◌, subst, arith, ℕ, zero, suc, ◌+◌, ◌-◌, ◌<◌, ◌≤◌, Bool, true, false, not, if◌then◌else◌, List, [], ◌∷◌, ◌++◌, map, length, length-append, Option, Some, None, option_map, unwrap_or}
 use Rattle.std.specs.Prelude.{nat_lt, is_some, IfSome}
 use Rattle.std.proofs.lemmas.List.{map-append, length-map}
 use Rattle.wf_frame.specs.declared.classes.Class.{Class}
 use Rattle.wf_frame.specs.Frames.{FrameValue}
-use Rattle.wf_def_air.specs.Airtime.{Rate}
+use Rattle.wf_def_air.specs.Airtime.{Rate, is_single}
 use Rattle.wf_def_lists.specs.Bounds.{narrow_window}
 use Rattle.wf_def_codel.specs.Codel.{Item, Params}
 use Rattle.wf_def_air.specs.Fit.{most_octets, fits}
@@ -15,7 +15,7 @@ use Rattle.wf_def_lists.specs.Table.{at}
 use Rattle.wf_def_world.specs.World.{World, Bounds, Station, Mpdu, no_station, is_live, station, session, codel_params, with_station, on_station, on_tid, on_session}
 use Rattle.wf_def_world.specs.FlowQueues.{taken_for_tid}
 use Rattle.wf_def_world.specs.CanSend.{can_give}
-use Rattle.wf_def_world.specs.Exchanges.{Aggregate, after_tid_turn, most_frames, lens_of, fits_in, fresh_mpdus, with_number, with_fresh}
+use Rattle.wf_def_world.specs.Exchanges.{Aggregate, after_tid_turn, takes_one, most_frames, lens_of, fits_in, fresh_mpdus, with_number, with_fresh}
 use Rattle.wf_law_runs.specs.Windows.{EachMpdu}
 use Rattle.wf_law_runs.proofs.Frames.Fates.{Fresh, safe_calm, safe_numbered}
 use Rattle.wf_law_runs.proofs.Frames.Fewer.{less_picked, less_after_turn}
@@ -209,8 +209,10 @@ module _ (w u : World) (s t : ℕ) (same : roster u ≡ roster w) (bounds : u.bo
       (ap (λ (r : Roster). r.stations s) same)
 
   pub most_same : most_frames u s ≡ most_frames w s
-  most_same = ap₂ (λ (b : Bool) (n : ℕ). if b then 1 else n) station_is.asleep
-      (ap (λ (b : Bounds). b.frames) bounds)
+  most_same =
+      ap₂ (λ (b : Bool) (r : Rate). if b || is_single r then 1 else u.bounds.frames) station_is.asleep
+      station_is.rate
+      ∙ ap (λ (b : Bounds). if takes_one (station w s) then 1 else b.frames) bounds
 
   pub room_same : room_for u s t ≡ room_for w s t
   room_same =

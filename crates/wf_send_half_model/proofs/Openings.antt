@@ -16,7 +16,7 @@ use Rattle.wf_def_world.specs.World.{World, Exchange}
 use Rattle.wf_def_world.specs.Refusals.{open_of_class}
 use Rattle.wf_law_runs.specs.Numbers.{greatest_computed}
 use Rattle.wf_law_runs.specs.Windows.{EachOpen, OpenRises}
-use Rattle.wf_law_runs.proofs.Deficits.Numbers.{number_law}
+use Rattle.wf_law_runs.proofs.Deficits.Numbers.{legacy_within, number_law}
 use Rattle.wf_send_parts.specs.declared.exchanges.opened.Open.{Open}
 use Rattle.wf_send_half_model.specs.Half.{TransmitValue}
 use Rattle.wf_send_half_model.specs.Standing.{open_of, IsReached, StandsFor}
@@ -36,19 +36,20 @@ opens_above v w bodies h =
     (subst (λ (xs : List Open). All (λ o. o.number < w.exchanges) xs) (sym h.parts.others.opened)
     (all_below 0 w.exchanges w.opened (rises w h.reached)))
 
-all_small : (xs : List Exchange) → EachOpen (λ x. (1 ≤ x.charge) × (x.charge ≤ greatest_computed)) xs →
+all_small : (legacy : ℕ) (xs : List Exchange) →
+    EachOpen (λ x. (1 ≤ x.charge) × (x.charge ≤ greatest_computed legacy)) xs →
     All (λ o. o.charge ≤ greatest_air) (map open_of xs)
-all_small [] h = All-nil (λ (o : Open). o.charge ≤ greatest_air)
-all_small (x ∷ xs) h = All-cons (λ (o : Open). o.charge ≤ greatest_air) (open_of x) (map open_of xs)
-    (omega (arith, h.0.1)) (all_small xs h.1)
+all_small legacy [] h = All-nil (λ (o : Open). o.charge ≤ greatest_air)
+all_small legacy (x ∷ xs) h = All-cons (λ (o : Open). o.charge ≤ greatest_air) (open_of x) (map open_of xs)
+    (omega (arith, h.0.1, legacy_within legacy)) (all_small legacy xs h.1)
 
 pub opens_small : (v : TransmitValue) (w : World) (bodies : ℕ → FrameValue) → StandsFor v w bodies →
     All (λ o. o.charge ≤ greatest_air) v.opened
 opens_small v w bodies h =
     let r : IsReached w = h.reached in
     subst (λ (xs : List Open). All (λ o. o.charge ≤ greatest_air) xs) (sym h.parts.others.opened)
-    (all_small w.opened (by_law (λ u. EachOpen (λ x. (1 ≤ x.charge) × (x.charge ≤ greatest_computed))
-    u.opened)
+    (all_small w.config.legacy w.opened
+    (by_law (λ u. EachOpen (λ x. (1 ≤ x.charge) × (x.charge ≤ greatest_computed u.config.legacy)) u.opened)
     w r (λ m. (number_law w.config r.history r.in_range m).charges)))
 
 -- ---- one of each class

@@ -1,6 +1,6 @@
 -- Proves a whole pull: the picked station sends a request or an aggregate, and the half represents the world
 -- after the step.
-use Rattle.std.proofs.Common.{◌≡◌, refl, ap, ap₂, sym, ◌∙◌, subst, arith, ℕ, ◌<◌, Bool, true, false, if◌then◌else◌, List, [], Option, Some, None, is_some, unwrap_or}
+use Rattle.std.proofs.Common.{◌||◌, ◌≡◌, refl, ap, ap₂, sym, ◌∙◌, subst, arith, ℕ, ◌<◌, Bool, true, false, if◌then◌else◌, List, [], Option, Some, None, is_some, unwrap_or}
 use Rattle.std.specs.Prelude.{IfSome}
 use Rattle.wf_frame.specs.declared.classes.Class.{Class}
 use Rattle.wf_frame.specs.declared.notes.Note.TheVariants.{Asked}
@@ -10,7 +10,7 @@ use Rattle.wf_frame.specs.declared.notes.Part.TheVariants.{Request as Starts}
 use Rattle.wf_frame.specs.declared.notes.ReplyNote.{ReplyNote}
 use Rattle.wf_frame.specs.declared.notes.ReplyNote.TheVariants.{Send}
 use Rattle.wf_frame.specs.Frames.{FrameValue}
-use Rattle.wf_def_air.specs.Airtime.{Rate, data_charge, plain_charge, request_charge}
+use Rattle.wf_def_air.specs.Airtime.{Rate, is_single, data_charge, plain_charge, request_charge}
 use Rattle.wf_def_lists.specs.Table.{at}
 use Rattle.wf_def_air.specs.Fit.{aggregate_octets, plain_octets}
 use Rattle.wf_def_agreement.specs.Session.{request_due}
@@ -234,10 +234,10 @@ module _ (v : TransmitValue) (w : World) (bodies : ℕ → FrameValue) (h : Stan
 -- the charge that the half computes, by whether the TID has an agreement
 charge_is : (b : Bool) (w : World) (s t count octets : ℕ) (lens : List ℕ) →
     charge_in (record (room_for w s t) { count = count; octets = octets }) b lens
-    ≡ (if b then plain_charge w.config.answers (station w s).rate (plain_octets (station w s).rate lens)
+    ≡ (if b || is_single (station w s).rate
+    then plain_charge w.config.answers (station w s).rate (plain_octets (station w s).rate lens)
     else data_charge w.config.answers (station w s).rate (aggregate_octets lens) (is_wide w s t))
-charge_is true w s t count octets lens = refl
-charge_is false w s t count octets lens = refl
+charge_is b w s t count octets lens = refl
 
 pub filled_charge : (v : TransmitValue) (bodies : ℕ → FrameValue) (s t : ℕ) (room : AggregateSizeValue)
     (numbers : List ℕ) (a : Aggregate) → IsFilled v bodies s t room numbers a →

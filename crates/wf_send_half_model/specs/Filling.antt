@@ -1,6 +1,6 @@
 -- Defines the stages in the middle of a pull: an aggregate is filled, and then its numbers fly, one after the
 -- other.
-use Rattle.std.specs.Prelude.{◌≡◌, ℕ, zero, suc, ◌-◌, ◌<◌, Bool, true, false, List, length, map}
+use Rattle.std.specs.Prelude.{if◌then◌else◌, ◌||◌, ◌≡◌, ℕ, zero, suc, ◌-◌, ◌<◌, Bool, true, false, List, length, map}
 use Rattle.wf_frame.specs.declared.classes.Cause.TheVariants.{Codel as By_codel}
 use Rattle.wf_frame.specs.declared.classes.Class.{Class}
 use Rattle.wf_frame.specs.declared.classes.Fate.TheVariants.{Dropped}
@@ -8,7 +8,7 @@ use Rattle.wf_frame.specs.Frames.{FrameValue}
 use Rattle.wf_def_codel.specs.Codel.{Params}
 use Rattle.wf_def_lists.specs.Lists.{IsRising}
 use Rattle.wf_def_agreement.specs.Session.{Session, State, slot, next_number, request_due}
-use Rattle.wf_def_air.specs.Airtime.{data_charge, plain_charge}
+use Rattle.wf_def_air.specs.Airtime.{is_single, data_charge, plain_charge}
 use Rattle.wf_def_air.specs.Fit.{most_octets, aggregate_octets, plain_octets}
 use Rattle.wf_frame.specs.declared.notes.Limits.{Limits}
 use Rattle.wf_def_world.specs.World.{World, Station, Mpdu, is_live, station, session, is_wide, with_bounds, on_session}
@@ -106,10 +106,12 @@ room_for w s t =
     (record { octets = most_octets x.rate x.exponent x.ampdu; frames = most_frames w s; time = w.bounds.air })
     w.config.answers (is_wide w s t)
 
--- the charge of frames with these lengths, in microseconds: without an agreement, or in an aggregate
+-- the charge of frames with these lengths, in microseconds, by whether they are sent without an agreement: an
+-- Ack answers them then, and also if the rate has no aggregates
 abbrev pub charge_in : AggregateSizeValue → Bool → List ℕ → ℕ
-charge_in room true lens = plain_charge room.answers room.rate (plain_octets room.rate lens)
-charge_in room false lens = data_charge room.answers room.rate (aggregate_octets lens) room.wide
+charge_in room plain lens =
+    if plain || is_single room.rate then plain_charge room.answers room.rate (plain_octets room.rate lens)
+    else data_charge room.answers room.rate (aggregate_octets lens) room.wide
 
 -- the aggregate under way has these transmissions to TID t of station s, as their lengths with encryption say
 pub record HasRoomFor (room : AggregateSizeValue) (w : World) (s t : ℕ) (mpdus : List Mpdu) : Type 0 where

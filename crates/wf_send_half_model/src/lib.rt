@@ -34,7 +34,7 @@ ghost use Rattle.wf_frame.specs.declared.notes.ReplyNote.TheVariants.{Accepted, 
 ghost use Rattle.wf_frame.specs.declared.notes.ReplyNote.TheVariants as reply;
 ghost use Rattle.wf_frame.specs.declared.settings.Config.{Config};
 ghost use Rattle.wf_frame.specs.declared.notes.Part.TheVariants.{Request as Starts};
-ghost use Rattle.wf_def_air.specs.Airtime.{Rate as RateValue, request_charge};
+ghost use Rattle.wf_def_air.specs.Airtime.{Rate as RateValue, is_single, request_charge};
 ghost use Rattle.wf_def_codel.specs.Codel.{Params};
 ghost use Rattle.wf_def_codel.specs.Parameters.{params_at};
 ghost use Rattle.wf_def_air.specs.Fit.{fits, most_octets};
@@ -834,7 +834,7 @@ pub fn a_pull_reads()
         (m : Member) → member v.members s ≡ Some m → (t : ℕ) → t < 8 → (b : Bounds) → w.bounds ≡ b →
         empty_size m.rate (record {
           octets = most_octets m.rate m.exponent m.ampdu;
-          frames = if (sleeper v.sleepers s).asleep then 1 else b.frames;
+          frames = if (sleeper v.sleepers s).asleep || is_single m.rate then 1 else b.frames;
           time = b.air;
         }) v.config.answers (is_wide_of v s t) ≡ room_for w s t }
     ensures drops { (v : TransmitValue) (w : World) (bodies : ℕ → FrameValue) (s t : ℕ) → Parts v w bodies →

@@ -3,7 +3,7 @@
 ghost use Rattle.std.specs.Prelude.{◌≡◌, ◌≢◌, ℕ, ◌*◌, ◌<◌, ◌≤◌, IfOk, length, replicate};
 ghost use Rattle.wf_frame.specs.Classes.{tid_number};
 ghost use Rattle.wf_def_world.specs.World.{has_agreement, holds_back};
-ghost use Rattle.wf_send_parts.specs.Modes.{as_mode, mode_of, with_mode_of};
+ghost use Rattle.wf_send_parts.specs.Modes.{as_mode, mode_of, is_set_in, any_set_in, with_mode_of};
 
 use std::alloc::{AllocError, Global};
 use std::marker::Model;
@@ -75,6 +75,31 @@ impl Modes {
         ensures { result ≡ mode_of self.now station tid }
     {
         self.modes[tid_number(station, tid) as usize]
+    }
+
+    /// Returns whether some TID of a station has an agreement or is held.
+    pub fn any_set(&self, station: u16) -> bool
+        requires within { tid_number station 7 < length self.now }
+        ensures { result ≡ any_set_in self.now station }
+    {
+        self.is_set(station, 0)
+            || self.is_set(station, 1)
+            || self.is_set(station, 2)
+            || self.is_set(station, 3)
+            || self.is_set(station, 4)
+            || self.is_set(station, 5)
+            || self.is_set(station, 6)
+            || self.is_set(station, 7)
+    }
+
+    // Returns whether a TID has an agreement or is held.
+    fn is_set(&self, station: u16, tid: u8) -> bool
+        requires tid { tid < 8 }
+        requires within { tid_number station tid < length self.now }
+        ensures { result ≡ is_set_in self.now station tid }
+    {
+        let mode = self.at(station, tid);
+        mode.is_agreed() || mode.is_on_hold()
     }
 
     /// Sets the mode of a TID.

@@ -15,7 +15,7 @@ returns-in_err-check_hold-clause-meets c w bodies h =
       λ e. cc e,
       (
         λ e. cc e,
-        (λ e. cc e, (λ e. cc e, (λ e. cc e, (λ e. cc e, tt)))),
+        (λ e. cc e, (λ e. cc e, (λ e. cc e, (λ e. cc e, (λ e. cc e, tt))))),
       ),
     ) h
     (c.in_err-check_hold.ensures.refused w bodies h))

@@ -8,7 +8,7 @@ use Rattle.wf_send_half.proofs.half.Half.rate.Goals as goal
 pub returns-in_err-rate-clause-meets : goal.returns-in_err-rate-clause-meets
 returns-in_err-rate-clause-meets c w bodies h =
     let p = err_from_is_err_and c.from_residual.result c.from_residual.ensures.1 in rw (p.1, p.2)
-    (refused_call c.args.self.now w bodies _ _ (λ e. cc e, (λ e. cc e, (λ e. cc e, tt))) h
+    (refused_call c.args.self.now w bodies _ _ (λ e. cc e, (λ e. cc e, (λ e. cc e, (λ e. cc e, tt)))) h
     (c.in_err-rate.ensures.refused w bodies h))
 
 pub returns-clause-meets : goal.returns-clause-meets
