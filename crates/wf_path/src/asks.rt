@@ -40,7 +40,8 @@ pub enum PathAsk {
     Leave {
         station: u16,
     },
-    /// Data to a station has this rate from now on.
+    /// Data to a station has this rate from now on. Refused as BadStation, BadRate, NoStation, or Agreed if
+    /// it is a rate of OFDM or DSSS and a TID of the station has an agreement or is held.
     Rate {
         station: u16,
         rate: AskedRate,
@@ -125,7 +126,7 @@ pub enum PathAsk {
         weight: u8,
     },
     /// No frame of a TID (0 to 7) gets a sequence number from now on, so that an agreement can begin. Refused
-    /// as BadStation, BadTid, NoStation, Offloaded, Agreed or Held.
+    /// as BadStation, BadTid, NoStation, Offloaded, Agreed, Held or Legacy.
     Hold {
         station: u16,
         tid: u8,

@@ -27,6 +27,7 @@ mod faults;
 mod flights;
 mod job;
 mod path;
+mod queues;
 mod reading;
 mod small;
 mod standing;

@@ -61,8 +61,8 @@ impl Path {
     }
 }
 
-/// Marks the association identifiers of the stations that sleep and have traffic, of this BSS if one is given.
-/// No entry may be marked before. It returns no array, since that would take twice the stack.
+/// Marks the association identifiers of the stations that sleep and have traffic, of this BSS if one is
+/// given. No entry may be marked before. It returns no array, since that would take twice the stack.
 fn mark_present(
     half: &Transmit,
     addresses: &AddressBook,
