@@ -1,9 +1,9 @@
 -- Proves which items a buffer holds as its places turn, that they fit into 256, and that each item is passed
 -- up or stored exactly once. By induction over the places.
-use Rattle.std.proofs.Common.{◌≡◌, ℕ, zero, suc, ◌+◌, ◌-◌, ◌<◌, ◌≤◌, min, true, false, List, [], ◌∷◌, ◌++◌, length, take, drop, replicate, get_or, set, Option, None, Some, is_some, refl, ap, ap₂, ◌∙◌, sym, subst, arith, append_assoc, length-append, length-drop, add-one}
+use Rattle.std.proofs.Common.{◌≡◌, ℕ, zero, suc, ◌+◌, ◌-◌, ◌%◌, ◌<◌, ◌≤◌, min, true, false, List, [], ◌∷◌, ◌++◌, length, take, drop, replicate, get_or, set, Option, None, Some, is_some, refl, ap, ap₂, ◌∙◌, sym, subst, arith, append_assoc, length-append, length-drop, add-one}
 use Rattle.std.specs.Option.{option_map}
-use Rattle.std.proofs.lemmas.List.{append-nil, take_more, take-append-drop, drop-append-le, drop-drop, replicate_more, get_or_append_left, get_or-drop, at_drop_more, at_drop_all, take_min, drop_min, length_push, length-set, length-replicate, drop_more, set_split, get_or-append_right}
-use Rattle.wf_recv_peer.specs.Buffer.{Buffer, NothingAtStart, HasOneMore, items_of, run_of, first_stored, items_below, with_start_moved, with_stored_item, release_outcome}
+use Rattle.std.proofs.lemmas.List.{append-nil, take_more, take-append-drop, drop-append-le, drop-drop, replicate_more, get_or_append_left, get_or-drop, at_drop_more, at_drop_all, take_min, drop_min, length_push, length-set, length-replicate, drop_more, drop_all, take_all, set_split, get_or-append_right}
+use Rattle.wf_recv_peer.specs.Buffer.{Buffer, NothingAtStart, HasOneMore, items_of, run_of, first_stored, items_below, with_start_moved, with_stored_item, release_outcome, ended_buffer}
 
 -- ---- the items
 
@@ -318,6 +318,33 @@ jumped_room n d x u b m a s f e g =
     omega (arith, ap length f, room_after_jump n (min n b.size) (run_of ys) d x b.places s.start some few) in
     subst (λ (t : Buffer). length u + length (items_below (run_of t.places) t) ≤ 256)
     (sym (g ∙ ap (with_stored_item d x) e)) least
+
+-- ---- the end of an agreement
+
+whole_min : (n : ℕ) → min n n ≡ n
+whole_min n = grind arith
+
+-- a move past all places is the end of the agreement
+pub moved_past : (n : ℕ) (b a : Buffer) → IsWindow b → n ≡ b.size → a ≡ with_start_moved n b →
+    a ≡ ended_buffer b
+moved_past n b a w same e =
+    e ∙ ap (λ k. with_start_moved k b) same
+    ∙ ap₂ (λ (ps : List (Option ℕ)) k. record b {
+      start = (b.start + b.size) % 4096;
+      places = ps ++ replicate k None;
+    }) (drop_all b.size b.places (omega (arith, w.0))) (whole_min b.size)
+
+pub all_below : (n : ℕ) (b : Buffer) → IsWindow b → n ≡ b.size → items_below n b ≡ items_of b.places
+all_below n b w same = ap items_of (take_all n b.places (omega (arith, w.0, same)))
+
+pub ended_settled : (b a : Buffer) → IsWindow b → a ≡ ended_buffer b → NothingAtStart a
+ended_settled b a w e = subst NothingAtStart (sym e) (record {
+  places = length-replicate {A = Option ℕ} b.size None;
+  least = w.1;
+  most = w.2;
+  capacity = w.3;
+  start = no_run b.size;
+})
 
 -- ---- each item exactly once
 

@@ -1,5 +1,5 @@
 -- Proves that each frame for the station passes all checks, one check after the other.
-use Rattle.std.proofs.Common.{◌≡◌, refl, sym, ℕ, ◌*◌, ◌/◌, ◌%◌, ◌<◌, ◌≤◌, ◌==◌, nat_lt, ◌&&◌, ◌||◌, not, Bool, true, false, List, [], ◌∷◌, length, Option, Some, None, ap, subst, ◌∙◌, if◌then◌else◌, MatchBool, arith}
+use Rattle.std.proofs.Common.{◌≡◌, refl, sym, ℕ, ◌*◌, ◌/◌, ◌%◌, ◌<◌, ◌≤◌, ◌==◌, nat_lt, ◌&&◌, ◌||◌, not, Bool, true, false, List, [], ◌∷◌, length, Option, Some, None, ap, ap₂, subst, ◌∙◌, if◌then◌else◌, MatchBool, arith}
 use Rattle.std.specs.Prelude.{slice_index}
 use Rattle.std.specs.Str.{bytes_eq}
 use Rattle.std.specs.Option.{option_map, option_or}
@@ -20,6 +20,7 @@ use Rattle.wf_recv_peer.specs.declared.fault.PeerFault.TheVariants.{Header, Kind
 use Rattle.wf_recv_peer.specs.declared.reading.Reading.TheVariants.{Data, Request}
 use Rattle.wf_recv_peer.specs.Frames.{IsDataFor, IsRequestFor}
 use Rattle.wf_recv_peer.specs.Receiving.{tid_read, peer_header_fault, peer_kind_fault, block_fault, peer_address_fault, peer_tid_fault, first_peer_fault}
+use Rattle.wf_recv_peer.specs.Plain.{PlainPeerValue, is_repeat, last_passed, repeats_last, data_tid, data_number, retry_of, data_kind_fault, data_tid_fault, first_data_fault}
 
 -- a check that passes leads to the next one
 passes : {X : Type 0} (b : Bool) (fault : X) (rest : Option X) → b ≡ false → rest ≡ None →
@@ -76,9 +77,9 @@ tid_of tid = if nat_lt tid 8 then None else Some (Tid tid)
 tid_fine : (tid : ℕ) → tid < 8 → tid_of tid ≡ None
 tid_fine tid low = ap (λ b. if b then None else Some (Tid tid)) (lt-ltb tid 8 low)
 
-data_tid : (octets : List ℕ) (h : HeaderOf) → slice_index octets 0 ≡ first_octet QosData →
+data_tid_fine : (octets : List ℕ) (h : HeaderOf) → slice_index octets 0 ≡ first_octet QosData →
     slice_index octets qos_at % 16 ≡ h.tid → h.tid < 8 → peer_tid_fault octets ≡ None
-data_tid octets h first tid low =
+data_tid_fine octets h first tid low =
     ap (λ n. tid_of (tid_read (if n == first_octet QosData
     then Data (slice_index octets qos_at % 16) (number_at octets sequence_at / 16)
     else Request (slice_index octets 17 / 16) (number_at octets 18 / 16)))) first
@@ -128,7 +129,51 @@ data_passes own base octets h is =
     (ap (option_map Header) (data_header octets first long (data_well_formed octets h qos)))
     (data_kind octets first) (data_block octets first)
     (addresses_pass own base octets (is.layout.address_1 ∙ is.recipient) (qos.address_2 ∙ is.transmitter))
-    (data_tid octets h first qos.tid is.tid)
+    (data_tid_fine octets h first qos.tid is.tid)
+
+-- ---- data for a TID without an agreement
+
+-- no check fails, and the octets have the header's fields
+pub record IsDataRead (own base octets : List ℕ) (h : HeaderOf) : Type 0 where
+  pub none : first_data_fault own base octets ≡ None
+  pub tid : data_tid octets ≡ h.tid
+  pub number : data_number octets ≡ h.seq
+  pub retry : retry_of octets ≡ h.retry
+
+single_kind : (octets : List ℕ) → slice_index octets 0 ≡ first_octet QosData → data_kind_fault octets ≡ None
+single_kind octets first = ap (λ n. if n == first_octet QosData then None else Some (Kind n)) first
+
+-- the repeat that the octets and the header define
+pub same_repeat : (octets : List ℕ) (h : HeaderOf) (p : PlainPeerValue) → data_tid octets ≡ h.tid →
+    data_number octets ≡ h.seq → retry_of octets ≡ h.retry →
+    repeats_last octets p ≡ is_repeat (last_passed p h.tid) h.retry h.seq
+same_repeat octets h p tid number retry =
+    ap₂ (λ t b. is_repeat (last_passed p t) b (data_number octets)) tid retry
+    ∙ ap (is_repeat (last_passed p h.tid) h.retry) number
+
+number_of : (n k : ℕ) → n ≡ 16 * k → n / 16 ≡ k
+number_of n k is = omega (arith, is)
+
+pub data_read : (own base octets : List ℕ) (h : HeaderOf) → IsDataFor own base octets h →
+    IsDataRead own base octets h
+data_read own base octets h is =
+    let qos : HasQosFields octets h = qos_fields octets h is.layout is.kind in
+    let first : slice_index octets 0 ≡ first_octet QosData = is.layout.first ∙ ap first_octet is.kind in
+    let long : 26 ≤ length octets = subst (λ k. size_of k ≤ length octets) is.kind is.layout.long in
+    record {
+      none = ap (λ f. option_or f (option_or (data_kind_fault octets)
+          (option_or (peer_address_fault own base octets) (data_tid_fault octets))))
+          (ap (option_map Header) (data_header octets first long (data_well_formed octets h qos)))
+          ∙ (ap (λ f. option_or f (option_or (peer_address_fault own base octets) (data_tid_fault octets)))
+          (single_kind octets first)
+          ∙ (ap (λ f. option_or f (data_tid_fault octets))
+          (addresses_pass own base octets (is.layout.address_1 ∙ is.recipient)
+          (qos.address_2 ∙ is.transmitter))
+          ∙ (ap tid_of qos.tid ∙ tid_fine h.tid is.tid)));
+      tid = qos.tid;
+      number = number_of (number_at octets sequence_at) h.seq qos.sequence;
+      retry = qos.retry;
+    }
 
 -- ---- a request
 

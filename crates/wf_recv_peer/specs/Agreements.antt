@@ -3,7 +3,7 @@
 use Rattle.std.specs.Prelude.{◌≡◌, ℕ, List, [], ◌++◌, replicate, slice_set, slice_index_or, Option, MatchOption}
 use Rattle.wf_recv_peer.specs.Board.{Board, empty_board}
 use Rattle.wf_recv_peer.specs.Board.{after_number as board_arrived, after_start as board_requested}
-use Rattle.wf_recv_peer.specs.Buffer.{Buffer, BufferOutcome, empty_buffer, items_of, HasOneMore}
+use Rattle.wf_recv_peer.specs.Buffer.{Buffer, BufferOutcome, empty_buffer, ended_buffer, items_of, HasOneMore}
 use Rattle.wf_recv_peer.specs.Buffer.{number_outcome as buffer_arrived, request_outcome as buffer_requested}
 use Rattle.wf_recv_peer.specs.declared.reading.Reading.{Reading}
 use Rattle.wf_recv_peer.specs.declared.reading.Reading.TheVariants.{Data, Request}
@@ -38,6 +38,13 @@ with_agreement tid a p = record p { agreements = slice_set p.agreements tid a }
 -- the agreement of a TID
 abbrev pub agreement : PeerValue → ℕ → AgreementValue
 agreement p tid = slice_index_or p.agreements tid (new_agreement 0 256)
+
+-- an agreement that ended: the next one begins past its window, unless it is reset
+abbrev pub ended_agreement : AgreementValue → AgreementValue
+ended_agreement a = record {
+  board = empty_board (ended_buffer a.buffer).start a.buffer.size;
+  buffer = ended_buffer a.buffer;
+}
 
 -- ---- the half after a frame
 

@@ -108,6 +108,10 @@ request_outcome_at d b =
 abbrev pub request_outcome : ℕ → Buffer → BufferOutcome
 request_outcome start b = request_outcome_at (distance start b.start) b
 
+-- the buffer after its agreement ended: the window is past all items, and nothing is stored
+abbrev pub ended_buffer : Buffer → Buffer
+ended_buffer b = empty_buffer b.capacity ((b.start + b.size) % 4096) b.size
+
 -- the invariant of a buffer between calls: nothing is stored at its start
 pub record NothingAtStart (b : Buffer) : Type 0 where
   pub places : length b.places ≡ b.size

@@ -5,3 +5,4 @@ pub mod Agreements
 pub mod Answering
 pub mod Frames
 pub mod Receiving
+pub mod Plain

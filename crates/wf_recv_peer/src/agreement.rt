@@ -2,7 +2,8 @@
 
 ghost use Rattle.std.specs.Prelude.{◌≡◌, ◌≤◌, ◌<◌, [], nat_lt, IfOk, take, drop};
 ghost use Rattle.wf_octets.specs.Offsets.{IsOffsets};
-ghost use Rattle.wf_recv_peer.specs.Agreements.{new_agreement, agreement_after, buffer_outcome, IsEachOnce};
+ghost use Rattle.wf_recv_peer.specs.Agreements.{new_agreement, ended_agreement, agreement_after, buffer_outcome, IsEachOnce};
+ghost use Rattle.wf_recv_peer.specs.Buffer.{items_of};
 ghost use Rattle.wf_recv_peer.specs.Answering.{answer_size, narrow_answer, wide_answer, IsWritten, IsWrittenWide, IsAnswer};
 
 use crate::reading::Reading;
@@ -53,6 +54,16 @@ impl Agreement {
     {
         self.score.reset(start, size);
         self.reorder.reset(start, size);
+    }
+
+    /// Ends the agreement: all stored items go up, in the order of their numbers. `up` must be empty.
+    pub(crate) fn end(&mut self, up: &mut Ids)
+        requires { up.old ≡ [] }
+        ensures after { self.new ≡ ended_agreement self.old }
+        ensures up { up.new ≡ items_of self.old.buffer.places }
+    {
+        self.reorder.end(up);
+        self.score.reset(self.reorder.start(), self.reorder.size());
     }
 
     /// Handles a frame of its TID. `id` is the id of a data frame. `up` must be empty, and gets the ids that

@@ -13,14 +13,18 @@
 //! let size = peer.answer(5, &mut out);             // the BlockAck of TID 5, 28 octets
 //! ```
 //!
-//! The module `recipient` has the scoreboard and the reordering buffer of one agreement.
+//! The module `recipient` has the scoreboard and the reordering buffer of one agreement. When an agreement
+//! ends, `Peer::end_tid` passes up what it stores. `PlainPeer` is the receive half for TIDs without an
+//! agreement: it knows a repeated frame by its number and its Retry bit (9.3.2.10).
 #![tactic(auto)]
 
 mod agreement;
 mod fault;
 mod peer;
+mod plain;
 mod reading;
 pub mod recipient;
 
 pub use fault::PeerFault;
 pub use peer::Peer;
+pub use plain::{PlainPeer, is_repeat};

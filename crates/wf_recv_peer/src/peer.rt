@@ -7,7 +7,8 @@ ghost use Rattle.wf_recv_peer.specs.declared.reading.Reading.TheVariants.{Data, 
 ghost use Rattle.wf_recv_peer.specs.Frames.{IsDataFor, IsRequestFor};
 ghost use Rattle.std.specs.Result.{result_err};
 ghost use Rattle.wf_recv_peer.specs.Receiving.{reading_of, first_peer_fault};
-ghost use Rattle.wf_recv_peer.specs.Agreements.{new_agreement, new_peer, with_agreement, agreement, after_frame, outcome_of_frame, IsEachOnce, buffer_of_tid};
+ghost use Rattle.wf_recv_peer.specs.Agreements.{new_agreement, ended_agreement, new_peer, with_agreement, agreement, after_frame, outcome_of_frame, IsEachOnce, buffer_of_tid};
+ghost use Rattle.wf_recv_peer.specs.Buffer.{items_of};
 ghost use Rattle.wf_recv_peer.specs.Answering.{answer_size, IsAnswer};
 
 use crate::PeerFault;
@@ -88,7 +89,7 @@ impl Peer {
     }
 
     /// Begins a new agreement for one TID, 0 to 7, with first number `start` and a window of `size`, 1 to
-    /// 256. Its stored items are dropped; to have them passed up, call `move_to` before.
+    /// 256. Its stored items are dropped; to have them passed up, call `end_tid` before.
     pub fn reset_tid(&mut self, tid: u8, start: Seq12, size: u16)
         requires tid { tid < 8 }
         requires size { (1 ≤ size) × (size ≤ 256) }
@@ -96,6 +97,19 @@ impl Peer {
         ensures eight { length self.new.agreements ≡ 8 }
     {
         self.agreements[usize::from(tid)].reset(start, size);
+    }
+
+    /// Ends the agreement of one TID, 0 to 7. `up` must be empty, and gets all its stored items, in the order
+    /// of their numbers: what an ended agreement passes up. Its window is then past their numbers;
+    /// `reset_tid` begins the next agreement.
+    pub fn end_tid(&mut self, tid: u8, up: &mut Ids)
+        requires tid { tid < 8 }
+        requires empty { up.old ≡ [] }
+        ensures up { up.new ≡ items_of (agreement self.old tid).buffer.places }
+        ensures after { self.new ≡ with_agreement tid (ended_agreement (agreement self.old tid)) self.old }
+        ensures eight { length self.new.agreements ≡ 8 }
+    {
+        self.agreements[usize::from(tid)].end(up);
     }
 
     /// Handles octets that reached the station: a data frame, whose item has this id, or a BlockAckReq. The

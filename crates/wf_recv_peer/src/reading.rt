@@ -6,6 +6,8 @@ ghost use Rattle.std.specs.Str.{bytes_eq};
 ghost use Rattle.wf_octets.specs.Fields.{part};
 ghost use Rattle.wf_octets.specs.HeaderLayout.{BeginsWithHeader};
 ghost use Rattle.std.specs.Result.{result_err};
+ghost use Rattle.wf_recv_peer.specs.Frames.{IsDataFor};
+ghost use Rattle.wf_recv_peer.specs.Plain.{data_tid, data_number, retry_of, first_data_fault};
 ghost use Rattle.wf_recv_peer.specs.Receiving.{tid_read, reading_of, peer_kind_fault, block_fault, first_peer_fault};
 
 use crate::PeerFault;
@@ -76,6 +78,28 @@ fn carried(header: &Header, octets: &[u8]) -> Result<Reading, PeerFault>
             Err(PeerFault::Kind(octets[0]))
         }
     }
+}
+
+/// Reads the header of a data frame that reaches the station with the address `own`, whose access point has
+/// the address `base`. Returns the first check that fails, if any does.
+pub(crate) fn read_data(own: [u8; 6], base: [u8; 6], octets: &[u8]) -> Result<Header, PeerFault>
+    ensures fault { result_err result ≡ first_data_fault own base octets.now }
+    ensures data { IfOk result (λ header. IsDataFor own base octets.now header) }
+    ensures tid { IfOk result (λ header. header.tid ≡ data_tid octets.now) }
+    ensures number { IfOk result (λ header. header.seq ≡ data_number octets.now) }
+    ensures retry { IfOk result (λ header. header.retry ≡ retry_of octets.now) }
+{
+    let (header, _) = decode(octets)?;
+    if header.kind != Kind::QosData {
+        return Err(PeerFault::Kind(octets[0]));
+    }
+    if !is_mine(own, base, &header) {
+        return Err(PeerFault::NotMine);
+    }
+    if header.tid > 7 {
+        return Err(PeerFault::Tid(header.tid));
+    }
+    Ok(header)
 }
 
 /// Returns whether a frame is from the access point with the address `base` to the station with the address

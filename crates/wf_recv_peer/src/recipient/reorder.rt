@@ -2,7 +2,7 @@
 //! 9.21.7.6). It accepts every sequence of numbers, also with jumps.
 
 ghost use Rattle.std.specs.Prelude.{◌≡◌, true, ◌+◌, ◌≤◌, ◌<◌, ◌++◌, ◌∷◌, [], length, take, drop, replicate, IfOk, MatchOption, None, slice_index_or, is_some};
-ghost use Rattle.wf_recv_peer.specs.Buffer.{items_of, run_of, empty_buffer, first_stored, first_stored_of, with_stored_item, items_below, with_start_moved, release_outcome, store_outcome, jump_outcome, number_outcome, request_outcome, HasOneMore};
+ghost use Rattle.wf_recv_peer.specs.Buffer.{items_of, run_of, empty_buffer, first_stored, first_stored_of, with_stored_item, items_below, with_start_moved, release_outcome, store_outcome, jump_outcome, number_outcome, request_outcome, ended_buffer, HasOneMore};
 
 use std::alloc::{AllocError, Global};
 use std::collections::VecDeque;
@@ -291,11 +291,31 @@ impl Reorder {
         }
     }
 
+    /// Ends the agreement: all stored items go up, in the order of their numbers. `up` must be empty. The
+    /// window moves past them, and nothing is stored.
+    pub fn end(&mut self, up: &mut Ids)
+        requires { up.old ≡ [] }
+        ensures up { up.new ≡ items_of self.old.places }
+        ensures after { self.new ≡ ended_buffer self.old }
+    {
+        let size = self.slots.size();
+        self.slots.move_on(size, up);
+    }
+
     /// Returns the first number of the window.
     pub fn start(&self) -> Seq12
         ensures { result ≡ self.now.start }
     {
         self.slots.start()
+    }
+
+    /// Returns the size of the window, 1 to 256.
+    pub fn size(&self) -> u16
+        ensures size { result ≡ self.now.size }
+        ensures least { 1 ≤ result }
+        ensures most { result ≤ 256 }
+    {
+        self.slots.size()
     }
 
     /// Returns the first stored number from the start on. None if none is stored.
