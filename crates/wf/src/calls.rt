@@ -105,7 +105,8 @@ fn say_unknown(command: Command, word: &[u8], out: &mut Line) {
 // Appends the faulty argument of an uplink's event and the values that are allowed. The uplink command itself
 // checks the octets of a frame and the width of a channel, so these two have messages here.
 fn say_uplink_arg(kind: FaultKind, form: &'static [u8], args: &[Arg], line: &[u8], out: &mut Line) {
-    let is_hex = kind == FaultKind::Number && form == b"frame HEX".as_slice();
+    let has_hex = form == b"frame HEX".as_slice() || form == b"bar HEX".as_slice();
+    let is_hex = kind == FaultKind::Number && has_hex;
     let is_width = kind == FaultKind::Word && form == b"rate S MCS MHZ GUARD".as_slice();
     match (next_word(line), third_word(line)) {
         (Some((word, _)), _) if is_hex => say(

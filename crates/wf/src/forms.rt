@@ -10,7 +10,7 @@ use wf_run::help::Command;
 use wf_trace::{Arg, next_word};
 
 /// The most forms that a command has.
-const MOST_FORMS: usize = 35;
+const MOST_FORMS: usize = 37;
 
 /// The most arguments that a form has.
 const MOST_ARGS: usize = 6;
@@ -29,11 +29,13 @@ const SESSION: [&[u8]; 6] = [
     b"end",
 ];
 
-const UPLINK: [&[u8]; 5] = [
+const UPLINK: [&[u8]; 7] = [
     b"open S W START",
+    b"plain S",
     b"rate S MCS MHZ GUARD",
     b"tick MICROSECONDS",
     b"frame HEX",
+    b"bar HEX",
     b"end",
 ];
 
@@ -186,14 +188,15 @@ fn session_args(word: &[u8]) -> &'static [Arg] {
     }
 }
 
-// No kind of argument describes the octets of a frame. The kind of `frame` here is a placeholder, and
-// `say_uplink_arg` recognizes it by its form.
+// No kind of argument describes the octets of a frame. The kind of `frame` and `bar` here is a placeholder,
+// and `say_uplink_arg` recognizes both by their forms.
 fn uplink_args(word: &[u8]) -> &'static [Arg] {
     match word {
         b"open" => &[SHORT, SHORT, SHORT],
         b"rate" => &[SHORT, UPLINK_MCS, UPLINK_MHZ, Arg::Guard],
         b"tick" => &[UPLINK_TICK],
-        b"frame" => &[Arg::Long],
+        b"plain" => &[SHORT],
+        b"frame" | b"bar" => &[Arg::Long],
         _ => &[],
     }
 }

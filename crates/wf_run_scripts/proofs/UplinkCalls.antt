@@ -1,15 +1,18 @@
 -- Proves the text of calls that are made in order, call by call, and of the holes that are given up after a
 -- step of the clock.
-use Rattle.std.proofs.Common.{◌≡◌, ℕ, zero, suc, ◌*◌, List, [], ◌∷◌, ◌++◌, true, false, refl, sym, ◌∙◌, ap, subst, append_assoc, append-nil, arith}
+use Rattle.std.proofs.Common.{◌≡◌, ℕ, zero, suc, ◌*◌, List, [], ◌∷◌, ◌++◌, true, false, refl, sym, ◌∙◌, ap, ap₂, subst, append_assoc, append-nil, arith}
 use Rattle.std.specs.Prelude.{Option, Some, None, IfSome, is_some, replicate}
 use Rattle.std.specs.Io.KnownBytes.{append_known}
 use Rattle.wf_io.specs.Fronts.{HoldsFront}
 use Rattle.wf_io.proofs.FrontLaws.{append_known-nil}
 use Rattle.wf_uplink.specs.declared.up.Up.{Up}
+use Rattle.wf_uplink.specs.declared.bitmap.Bitmap.{Bitmap}
+use Rattle.wf_uplink.specs.declared.fault.RequestFault.{RequestFault}
+use Rattle.wf_uplink.specs.Sides.{bitmap_of}
 use Rattle.wf_uplink.specs.Shown.{up_of}
-use Rattle.wf_uplink.specs.World.{World, Call, Tick, Expire, first_due, timeout_of, after_call, after_calls, answer, answers, tids_of_station}
+use Rattle.wf_uplink.specs.World.{World, Call, Request, NotRequested, Tick, Expire, first_request_fault, request_delivery, board_shown, request_answer, first_due, timeout_of, after_call, after_calls, answer, answers, tids_of_station}
 use Rattle.wf_uplink.proofs.Heard.{none_after}
-use Rattle.wf_run_scripts.specs.UplinkAnswers.{stations, calls_text, answer_text, up_line}
+use Rattle.wf_run_scripts.specs.UplinkAnswers.{stations, calls_text, answer_text, up_line, request_line}
 use Rattle.wf_run_scripts.specs.UplinkPieces.{IsBegun}
 use Rattle.wf_run_scripts.specs.UplinkRoom.{can_count, lacks_room}
 use Rattle.wf_run_scripts.proofs.UplinkRoom.{later_lacks, expire_lacks}
@@ -54,6 +57,21 @@ after_none w = refl
 pub text_single : (w : World) (call : Call) → calls_text w (call ∷ []) ≡ answer_text (answer call w)
 text_single w call = text_one w call [] ∙ ap (λ l. answer_text (answer call w) ++ l)
     (text_none (after_call call w)) ∙ append-nil (answer_text (answer call w))
+
+-- A request that is accepted, and one that is refused.
+pub request_text : (w : World) (octets : List ℕ) (up : Up) (b : Bitmap) →
+    first_request_fault octets w ≡ None → up ≡ up_of (request_delivery octets w) →
+    b ≡ bitmap_of (board_shown octets w) → calls_text w (Request octets ∷ []) ≡ request_line up b
+request_text w octets up b none is shown =
+    text_single w (Request octets)
+    ∙ ap (λ f. answer_text (request_answer f octets w)) none
+    ∙ sym (ap₂ request_line is shown)
+
+pub refused_text : (w : World) (octets : List ℕ) (fault : RequestFault) →
+    first_request_fault octets w ≡ Some fault →
+    calls_text w (Request octets ∷ []) ≡ answer_text (NotRequested fault)
+refused_text w octets fault some = text_single w (Request octets)
+    ∙ ap (λ f. answer_text (request_answer f octets w)) some
 
 pub after_single : (w : World) (call : Call) → after_calls w (call ∷ []) ≡ after_call call w
 after_single w call = after_one w call [] ∙ after_none (after_call call w)

@@ -9,7 +9,11 @@ use Rattle.wf_uplink.specs.Reordering.{Reordering, Stored, ReorderingOutcome, un
 use Rattle.wf_def_air.specs.Airtime.{Rate, lowest_rate}
 use Rattle.wf_uplink.specs.declared.fault.OpenFault.{OpenFault}
 use Rattle.wf_uplink.specs.declared.fault.UplinkFault.{UplinkFault}
-use Rattle.wf_uplink.specs.World.{World, Call, Open, SetRate, Receive, Tick, Expire, tids_of_station, is_open, open_fault, receive_fault, first_due, reordering_at, expired_at, after_open, after_receive, after_expire, after_call, after_calls}
+use Rattle.wf_uplink.specs.declared.fault.RequestFault.{RequestFault}
+use Rattle.wf_recv_peer.specs.Plain.{retry_of}
+use Rattle.wf_uplink.specs.Frames.{sequence_of}
+use Rattle.wf_uplink.proofs.Calls.{accepted_rates}
+use Rattle.wf_uplink.specs.World.{World, Call, Open, OpenPlain, SetRate, Receive, Request, Tick, Expire, tids_of_station, is_open, open_fault, open_plain_fault, receive_fault, first_request_fault, side_of_frame, place_of_frame, first_due, reordering_at, expired_at, after_open, after_open_plain, after_receive, after_request, after_expire, after_call, after_calls}
 use Rattle.wf_uplink.specs.Soundness.{ReorderingIsOrderly, IsSound}
 use Rattle.wf_uplink.proofs.Heard.{due_after}
 use Rattle.wf_uplink.proofs.Moves.{choose, hole_from}
@@ -138,9 +142,20 @@ open_size : (station window start : ℕ) (w : World) (o : Option OpenFault) →
 open_size station window start w None = length-set w.rates station (Some lowest_rate)
 open_size station window start w (Some fault) = refl
 
+open_plain_size : (station : ℕ) (w : World) (o : Option OpenFault) →
+    length (after_open_plain o station w).rates ≡ length w.rates
+open_plain_size station w None = length-set w.rates station (Some lowest_rate)
+open_plain_size station w (Some fault) = refl
+
+request_size : (octets : List ℕ) (w : World) (o : Option RequestFault) →
+    length (after_request o octets w).rates ≡ length w.rates
+request_size octets w None = refl
+request_size octets w (Some fault) = refl
+
 receive_size : (octets : List ℕ) (w : World) (o : Option UplinkFault) →
     length (after_receive o octets w).rates ≡ length w.rates
-receive_size octets w None = refl
+receive_size octets w None = ap (λ (rs : List (Option Rate)). length rs)
+    (accepted_rates (side_of_frame octets w) (place_of_frame octets) (retry_of octets) (sequence_of octets) w)
 receive_size octets w (Some fault) = refl
 
 expire_size : (w : World) (o : Option ℕ) → length (after_expire o w).rates ≡ length w.rates
@@ -150,11 +165,13 @@ expire_size w (Some place) = refl
 call_size : (call : Call) (w : World) → length (after_call call w).rates ≡ length w.rates
 unfolding after_call
 call_size (Open station window start) w = open_size station window start w (open_fault station window start w)
+call_size (OpenPlain station) w = open_plain_size station w (open_plain_fault station w)
 call_size (SetRate station rate) w =
     choose (λ (v : World). length v.rates ≡ length w.rates) (is_open w station)
     (record w { rates = set w.rates station (Some rate) }) w (λ _. length-set w.rates station (Some rate))
     (λ _. refl)
 call_size (Receive octets) w = receive_size octets w (receive_fault octets w)
+call_size (Request octets) w = request_size octets w (first_request_fault octets w)
 call_size (Tick by) w = refl
 call_size Expire w = expire_size w (first_due w)
 

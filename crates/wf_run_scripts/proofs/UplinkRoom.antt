@@ -2,7 +2,7 @@
 use Rattle.std.proofs.Common.{◌≡◌, ℕ, ◌+◌, ◌^◌, ◌≤◌, ◌||◌, not, nat_lt, Bool, true, false, List, ◌∷◌, refl, ap, arith}
 use Rattle.std.proofs.lemmas.Bool.Decides.{nat_tests}
 use Rattle.wf_uplink.specs.Soundness.{latest}
-use Rattle.wf_uplink.specs.World.{World, Call, Receive, Tick, Expire, after_call}
+use Rattle.wf_uplink.specs.World.{World, Call, Receive, Request, Tick, Expire, after_call}
 use Rattle.wf_run_scripts.specs.UplinkRoom.{can_count, is_full, lacks_room}
 
 either_first : (a b : Bool) → a ≡ true → (a || b) ≡ true
@@ -27,6 +27,10 @@ later_lacks w call more lacks = either_second (is_full call w) (lacks_room (afte
 pub receive_lacks : (w : World) (octets : List ℕ) (more : List Call) → can_count w ≡ false →
     lacks_room w (Receive octets ∷ more) ≡ true
 receive_lacks w octets more full = first_lacks w (Receive octets) more (ap not full)
+
+pub request_lacks : (w : World) (octets : List ℕ) (more : List Call) → can_count w ≡ false →
+    lacks_room w (Request octets ∷ more) ≡ true
+request_lacks w octets more full = first_lacks w (Request octets) more (ap not full)
 
 pub expire_lacks : (w : World) (more : List Call) → can_count w ≡ false →
     lacks_room w (Expire ∷ more) ≡ true

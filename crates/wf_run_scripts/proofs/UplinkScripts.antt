@@ -2,7 +2,8 @@
 use Rattle.std.proofs.Common.{◌≡◌, ℕ, List, [], ◌∷◌, ◌++◌, true, sym, ◌∙◌, ap}
 use Rattle.std.specs.Prelude.{flat_map}
 use Rattle.wf_uplink.specs.World.{World, after_calls}
-use Rattle.wf_uplink.proofs.Calls.{tids_told, totals, charges}
+use Rattle.wf_uplink.proofs.Calls.{tids_told, totals, charges, request_charges}
+use Rattle.wf_uplink.proofs.PlainCalls.{plain_told}
 use Rattle.wf_trace.specs.Scripts.{Script}
 use Rattle.wf_trace.specs.ScriptTexts.{answers}
 use Rattle.wf_run_scripts.specs.declared.uplink.event.Event.{Event}
@@ -25,8 +26,12 @@ laws s = record {
   told = told_by first s.events;
   tids_in_order = λ before later rest station window start tid is known opened.
       tids_told stations before later station window start tid known opened;
+  plain_tids = λ before later rest station tid is known opened.
+      plain_told stations before later station tid known opened;
   totals = λ before rest is. totals stations before;
   charges = λ before rest octets d is taken. charges stations before octets d taken;
+  request_charges = λ before rest octets d board is taken.
+      request_charges stations before octets d board taken;
   quiet = λ before rest by is. quiet before by;
 }
 

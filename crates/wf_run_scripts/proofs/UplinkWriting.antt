@@ -13,15 +13,16 @@ use Rattle.wf_io.specs.Fronts.{HoldsFront}
 use Rattle.wf_io.proofs.FrontLaws.{append_known-nil, append_known-append, front_first, front_next}
 use Rattle.wf_uplink.specs.declared.items.UpItem.{UpItem}
 use Rattle.wf_uplink.specs.declared.up.Up.{Up}
-use Rattle.wf_run_scripts.specs.UplinkAnswers.{item_words, air_words, old_words, up_line}
+use Rattle.wf_run_scripts.specs.UplinkAnswers.{item_words, air_words, last_words, told_line}
+use Rattle.wf_run_scripts.specs.declared.uplink.told.Ending.{Ending}
 use Rattle.wf_run_scripts.specs.UplinkPieces.{IsBegun, head_text}
 
 -- The line up to its first i items.
 abbrev pub text_to : Bool → Up → ℕ → List ℕ
 text_to is_frame u i = head_text is_frame u ++ spaced (flat_map item_words (take i u.items))
 
-abbrev pub end_text : Up → List ℕ
-end_text u = spaced (old_words u.old) ++ 10 ∷ []
+abbrev pub end_text : Ending → List ℕ
+end_text end = spaced (last_words end) ++ 10 ∷ []
 
 pub no_item : (is_frame : Bool) (u : Up) → head_text is_frame u ≡ text_to is_frame u 0
 no_item is_frame u = sym (append-nil (head_text is_frame u))
@@ -57,20 +58,22 @@ line_parts word head items old =
       spaced-append items old,
     ) (simp append_assoc)
 
-up_line_is : (is_frame : Bool) (u : Up) → (head_text is_frame u ++ spaced (flat_map item_words u.items))
-    ++ end_text u ≡ up_line is_frame u
-up_line_is is_frame u =
-    line_parts (codes "up") (codes "sta" ∷ decimal u.station ∷ codes "tid" ∷ decimal u.tid ∷ air_words is_frame u.air) (flat_map item_words u.items) (old_words u.old)
+told_line_is : (is_frame : Bool) (u : Up) (e : Ending) →
+    (head_text is_frame u ++ spaced (flat_map item_words u.items)) ++ end_text e ≡ told_line is_frame u e
+told_line_is is_frame u e =
+    line_parts (codes "up")
+    (codes "sta" ∷ decimal u.station ∷ codes "tid" ∷ decimal u.tid ∷ air_words is_frame u.air)
+    (flat_map item_words u.items) (last_words e)
 
-whole_line : (is_frame : Bool) (u : Up) (i : ℕ) → length u.items ≤ i →
-    text_to is_frame u i ++ end_text u ≡ up_line is_frame u
-whole_line is_frame u i all =
-    ap (λ (items : List UpItem). (head_text is_frame u ++ spaced (flat_map item_words items)) ++ end_text u)
-    (take_all i u.items all) ∙ up_line_is is_frame u
+whole_line : (is_frame : Bool) (u : Up) (e : Ending) (i : ℕ) → length u.items ≤ i →
+    text_to is_frame u i ++ end_text e ≡ told_line is_frame u e
+whole_line is_frame u e i all =
+    ap (λ (items : List UpItem). (head_text is_frame u ++ spaced (flat_map item_words items)) ++ end_text e)
+    (take_all i u.items all) ∙ told_line_is is_frame u e
 
 -- The rest of the line after the first i items.
-abbrev rest_text : Up → ℕ → List ℕ
-rest_text u i = spaced (flat_map item_words (drop i u.items)) ++ end_text u
+abbrev rest_text : Up → Ending → ℕ → List ℕ
+rest_text u e i = spaced (flat_map item_words (drop i u.items)) ++ end_text e
 
 parts_line : (head end : List ℕ) (xs ys : List UpItem) →
     (head ++ spaced (flat_map item_words (xs ++ ys))) ++ end ≡ (head ++ spaced (flat_map item_words xs))
@@ -80,12 +83,13 @@ parts_line head end xs ys = rw (
   spaced-append (flat_map item_words xs) (flat_map item_words ys),
 ) (simp append_assoc)
 
-line_from : (is_frame : Bool) (u : Up) (i : ℕ) → up_line is_frame u ≡ text_to is_frame u i ++ rest_text u i
-line_from is_frame u i =
-    sym (up_line_is is_frame u)
-    ∙ ap (λ (items : List UpItem). (head_text is_frame u ++ spaced (flat_map item_words items)) ++ end_text u)
+line_from : (is_frame : Bool) (u : Up) (e : Ending) (i : ℕ) →
+    told_line is_frame u e ≡ text_to is_frame u i ++ rest_text u e i
+line_from is_frame u e i =
+    sym (told_line_is is_frame u e)
+    ∙ ap (λ (items : List UpItem). (head_text is_frame u ++ spaced (flat_map item_words items)) ++ end_text e)
     (sym (take-append-drop i u.items))
-    ∙ parts_line (head_text is_frame u) (end_text u) (take i u.items) (drop i u.items)
+    ∙ parts_line (head_text is_frame u) (end_text e) (take i u.items) (drop i u.items)
 
 -- ---- the octets written and the line left
 
@@ -163,36 +167,36 @@ item_begun is_frame u i item old now line at begun =
     subst (λ l. IsBegun old now (line ++ spaced (item_words item)) l) (item_more is_frame u i item at)
     (begun_more old now line (spaced (item_words item)) (text_to is_frame u i) begun)
 
-pub item_front : (is_frame : Bool) (u : Up) (i : ℕ) (item : UpItem) (old now new : Option (List ℕ))
-    (line : List ℕ) → slice_get u.items i ≡ Some item →
+pub item_front : (is_frame : Bool) (u : Up) (e : Ending) (i : ℕ) (item : UpItem)
+    (old now new : Option (List ℕ)) (line : List ℕ) → slice_get u.items i ≡ Some item →
     IsBegun old now line (text_to is_frame u i) → HoldsFront now new (line ++ spaced (item_words item)) →
-    HoldsFront old new (up_line is_frame u)
-item_front is_frame u i item old now new line at begun front =
-    subst (HoldsFront old new) (sym (line_from is_frame u (i + 1)))
+    HoldsFront old new (told_line is_frame u e)
+item_front is_frame u e i item old now new line at begun front =
+    subst (HoldsFront old new) (sym (line_from is_frame u e (i + 1)))
     (begun_front old now new (line ++ spaced (item_words item)) (text_to is_frame u (i + 1))
-    (rest_text u (i + 1)) (item_begun is_frame u i item old now line at begun) front)
+    (rest_text u e (i + 1)) (item_begun is_frame u i item old now line at begun) front)
 
-end_begun : (is_frame : Bool) (u : Up) (i : ℕ) (old now : Option (List ℕ)) (line : List ℕ) →
+end_begun : (is_frame : Bool) (u : Up) (e : Ending) (i : ℕ) (old now : Option (List ℕ)) (line : List ℕ) →
     length u.items ≤ i → IsBegun old now line (text_to is_frame u i) →
-    IsBegun old now (line ++ end_text u) (up_line is_frame u)
-end_begun is_frame u i old now line all begun =
-    subst (λ l. IsBegun old now (line ++ end_text u) l) (whole_line is_frame u i all)
-    (begun_more old now line (end_text u) (text_to is_frame u i) begun)
+    IsBegun old now (line ++ end_text e) (told_line is_frame u e)
+end_begun is_frame u e i old now line all begun =
+    subst (λ l. IsBegun old now (line ++ end_text e) l) (whole_line is_frame u e i all)
+    (begun_more old now line (end_text e) (text_to is_frame u i) begun)
 
-pub end_written : (is_frame : Bool) (u : Up) (i : ℕ) (old now new : Option (List ℕ)) (line : List ℕ) →
-    length u.items ≤ i → IsBegun old now line (text_to is_frame u i) →
-    new ≡ append_known now (line ++ end_text u) → new ≡ append_known old (up_line is_frame u)
-end_written is_frame u i old now new line all begun wrote =
-    begun_written old now new (line ++ end_text u) (up_line is_frame u)
-    (end_begun is_frame u i old now line all begun) wrote
+pub end_written : (is_frame : Bool) (u : Up) (e : Ending) (i : ℕ) (old now new : Option (List ℕ))
+    (line : List ℕ) → length u.items ≤ i → IsBegun old now line (text_to is_frame u i) →
+    new ≡ append_known now (line ++ end_text e) → new ≡ append_known old (told_line is_frame u e)
+end_written is_frame u e i old now new line all begun wrote =
+    begun_written old now new (line ++ end_text e) (told_line is_frame u e)
+    (end_begun is_frame u e i old now line all begun) wrote
 
-pub end_front : (is_frame : Bool) (u : Up) (i : ℕ) (old now new : Option (List ℕ)) (line : List ℕ) →
-    length u.items ≤ i → IsBegun old now line (text_to is_frame u i) →
-    HoldsFront now new (line ++ end_text u) → HoldsFront old new (up_line is_frame u)
-end_front is_frame u i old now new line all begun front =
-    subst (HoldsFront old new) (append-nil (up_line is_frame u))
-    (begun_front old now new (line ++ end_text u) (up_line is_frame u) []
-    (end_begun is_frame u i old now line all begun) front)
+pub end_front : (is_frame : Bool) (u : Up) (e : Ending) (i : ℕ) (old now new : Option (List ℕ))
+    (line : List ℕ) → length u.items ≤ i → IsBegun old now line (text_to is_frame u i) →
+    HoldsFront now new (line ++ end_text e) → HoldsFront old new (told_line is_frame u e)
+end_front is_frame u e i old now new line all begun front =
+    subst (HoldsFront old new) (append-nil (told_line is_frame u e))
+    (begun_front old now new (line ++ end_text e) (told_line is_frame u e) []
+    (end_begun is_frame u e i old now line all begun) front)
 
 -- ---- facts of a result
 
@@ -207,3 +211,21 @@ on_err (Err fault) Q q = q
 pub on_err_by : {T E : Type 0} (r : Result T E) (P Q : Type 0) → (P → Q) → OnErr r P → OnErr r Q
 on_err_by (Ok value) P Q then p = tt
 on_err_by (Err fault) P Q then p = then p
+
+-- ---- a text that was written by a call of either kind
+
+pub wrote_as : {T E : Type 0} (r s : Result T E) (old now new : Option (List ℕ)) (text wanted : List ℕ) →
+    r ≡ s → now ≡ new → text ≡ wanted → OnOk s (new ≡ append_known old text) →
+    OnOk r (now ≡ append_known old wanted)
+wrote_as r s old now new text wanted same held is done =
+    subst (λ q. OnOk q (now ≡ append_known old wanted)) (sym same)
+    (on_ok s (new ≡ append_known old text) (now ≡ append_known old wanted)
+    (λ wrote. held ∙ wrote ∙ ap (append_known old) is) done)
+
+pub front_as : {T E : Type 0} (r s : Result T E) (old now new : Option (List ℕ)) (text wanted : List ℕ) →
+    r ≡ s → now ≡ new → text ≡ wanted → OnErr s (HoldsFront old new text) →
+    OnErr r (HoldsFront old now wanted)
+front_as r s old now new text wanted same held is done =
+    subst (λ q. OnErr q (HoldsFront old now wanted)) (sym same)
+    (on_err_by s (HoldsFront old new text) (HoldsFront old now wanted)
+    (λ front. subst (λ h. HoldsFront old h wanted) (sym held) (subst (HoldsFront old new) is front)) done)

@@ -14,18 +14,20 @@ use Rattle.wf_trace.specs.Scripts.{Grammar, Script, script}
 use Rattle.wf_run_scripts.specs.declared.uplink.event.Event.{Event}
 use Rattle.wf_run_scripts.specs.declared.uplink.event.Event.TheVariants as event
 use Rattle.wf_run_scripts.specs.declared.uplink.verb.Verb.{Verb}
-use Rattle.wf_run_scripts.specs.declared.uplink.verb.Verb.TheVariants.{Open, Rate, Tick, Frame}
+use Rattle.wf_run_scripts.specs.declared.uplink.verb.Verb.TheVariants.{Open, Plain, Rate, Tick, Frame, Bar}
 use Rattle.wf_run_scripts.specs.UplinkOctets.{octets_of_word}
 
 -- The word of an event.
 abbrev pub uplink_word : Verb → List ℕ
 uplink_word Open = codes "open"
+uplink_word Plain = codes "plain"
 uplink_word Rate = codes "rate"
 uplink_word Tick = codes "tick"
 uplink_word Frame = codes "frame"
+uplink_word Bar = codes "bar"
 
 abbrev pub verbs : List Verb
-verbs = Open ∷ Rate ∷ Tick ∷ Frame ∷ []
+verbs = Open ∷ Plain ∷ Rate ∷ Tick ∷ Frame ∷ Bar ∷ []
 
 abbrev pub verb_named : List ℕ → Option Verb
 verb_named word = find (λ verb. bytes_eq (uplink_word verb) word) verbs
@@ -40,6 +42,17 @@ open_args = Number 0 short_most ∷ Number 0 short_most ∷ Number 0 short_most 
 
 abbrev pub open_meant : List (List ℕ) → Result Event FaultKind
 open_meant words = result_seen opening_of (read_args open_args words)
+
+-- ---- a station is opened without agreements: its number
+
+abbrev pub plain_of : List Value → Event
+plain_of values = event.Plain (long_at values 0)
+
+abbrev pub plain_args : List Arg
+plain_args = Number 0 short_most ∷ []
+
+abbrev pub plain_meant : List (List ℕ) → Result Event FaultKind
+plain_meant words = result_seen plain_of (read_args plain_args words)
 
 -- ---- a rate is set: the number of a station, an MCS, the channel's width, and the guard interval
 
@@ -73,25 +86,33 @@ tick_args = Number 0 greatest_tick ∷ []
 abbrev pub tick_meant : List (List ℕ) → Result Event FaultKind
 tick_meant words = result_seen tick_of (read_args tick_args words)
 
--- ---- a frame is received
+-- ---- a frame or a BlockAckReq is received: its octets
 
-abbrev pub octets_meant : Option (List ℕ) → Result Event FaultKind
-octets_meant None = Err kind.Number
-octets_meant (Some octets) = Ok (event.Frame octets)
+abbrev pub octets_or_fault : Option (List ℕ) → Result (List ℕ) FaultKind
+octets_or_fault None = Err kind.Number
+octets_or_fault (Some octets) = Ok octets
+
+abbrev pub octets_meant : List (List ℕ) → Result (List ℕ) FaultKind
+octets_meant [] = Err kind.Count
+octets_meant (word ∷ []) = octets_or_fault (octets_of_word word)
+octets_meant (word ∷ other ∷ words) = Err kind.Count
 
 abbrev pub frame_meant : List (List ℕ) → Result Event FaultKind
-frame_meant [] = Err kind.Count
-frame_meant (word ∷ []) = octets_meant (octets_of_word word)
-frame_meant (word ∷ other ∷ words) = Err kind.Count
+frame_meant words = result_seen event.Frame (octets_meant words)
+
+abbrev pub bar_meant : List (List ℕ) → Result Event FaultKind
+bar_meant words = result_seen event.Bar (octets_meant words)
 
 -- ---- any line
 
 abbrev pub named : Option Verb → List (List ℕ) → Result Event FaultKind
 named None words = Err kind.Word
 named (Some Open) words = open_meant words
+named (Some Plain) words = plain_meant words
 named (Some Rate) words = rate_meant words
 named (Some Tick) words = tick_meant words
 named (Some Frame) words = frame_meant words
+named (Some Bar) words = bar_meant words
 
 abbrev pub meant : List (List ℕ) → Result Event FaultKind
 meant [] = Err kind.Word
@@ -112,6 +133,9 @@ pub record AreOpening (values : List Value) : Type 0 where
   pub window : long_at values 1 ≤ short_most
   pub start : long_at values 2 ≤ short_most
 
+pub record ArePlain (values : List Value) : Type 0 where
+  pub station : long_at values 0 ≤ short_most
+
 pub record AreRate (values : List Value) : Type 0 where
   pub station : long_at values 0 ≤ short_most
   pub mcs : long_at values 1 ≤ greatest_mcs
@@ -120,6 +144,8 @@ pub record AreRate (values : List Value) : Type 0 where
 -- The clock advances by at most 10,000,000 microseconds in one step.
 abbrev pub IsValid : Event → Type 0
 IsValid (event.Open station window start) = Unit {0}
+IsValid (event.Plain station) = Unit {0}
 IsValid (event.Rate station rate) = Unit {0}
 IsValid (event.Tick by) = by ≤ greatest_tick
 IsValid (event.Frame octets) = Unit {0}
+IsValid (event.Bar octets) = Unit {0}

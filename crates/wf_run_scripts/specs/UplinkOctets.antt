@@ -1,5 +1,5 @@
--- Defines the octets of a line `frame`: two hexadecimal digits without capital letters for each octet, as the
--- crate hex decodes them.
+-- Defines the octets of a line `frame` or `bar`: two hexadecimal digits without capital letters for each
+-- octet, as the crate hex decodes them.
 use Rattle.std.specs.Prelude.{ℕ, ◌-◌, nat_le, ◌&&◌, ◌||◌, Bool, List, ◌++◌, length, replicate, Option, Some, None, Result, Ok, Err, if◌then◌else◌}
 use Rattle.std.specs.List.{list_all}
 use Rattle.hex.specs.declared.error.FromHexError.{FromHexError}

@@ -1,9 +1,12 @@
 -- Proves that the worlds after a frame and after a timeout are those of the definitions, and satisfy the
 -- invariant.
-use Rattle.std.proofs.Common.{◌≡◌, ℕ, ◌+◌, ◌<◌, ◌≤◌, Bool, true, false, List, ◌++◌, take, drop, length, map, set, Some, None, refl, sym, ◌∙◌, ap, ap₂, subst, arith, if◌then◌else◌}
+use Rattle.std.proofs.Common.{◌≡◌, ℕ, ◌+◌, ◌-◌, ◌<◌, ◌≤◌, Bool, true, false, List, [], ◌∷◌, ◌++◌, take, drop, length, map, set, Some, None, refl, sym, ◌∙◌, ap, ap₂, subst, arith, if◌then◌else◌}
 use Rattle.std.specs.Prelude.{count_by, sum_by, IfSome}
 use mir.Val.{bool_byte}
-use Rattle.wf_uplink.proofs.Calls.{timed_out_old}
+use Rattle.wf_def_air.specs.Airtime.{Rate, data_charge, plain_charge}
+use Rattle.wf_def_air.specs.Fit.{plain_octets, overhead_octets}
+use Rattle.wf_uplink.specs.Sides.{SideValue, Agreed, Plain, is_plain_side}
+use Rattle.wf_uplink.proofs.Calls.{timed_out_old, request_old}
 use Rattle.wf_uplink.specs.Reordering.{is_none_stored}
 use Rattle.std.proofs.lemmas.List.{append-nil, take_all, drop_all}
 use Rattle.wf_uplink.specs.declared.items.UpItem.{UpItem}
@@ -11,20 +14,20 @@ use Rattle.wf_uplink.specs.Reordering.{Reordering, ReorderingOutcome, timed_out}
 use Rattle.wf_uplink.specs.Shown.{item_of, is_frame, missing_of}
 use Rattle.wf_uplink.specs.Soundness.{IsSound, IsWatched, world_of, latest, worth_of}
 use Rattle.wf_uplink.specs.Reordering.{waits_since_of}
-use Rattle.wf_uplink.specs.World.{World, Expire, rate_of, is_open, place_of, tids_of_station, reordering_at, reordering_of, count_of, released_in, given_up_in, with_outcome, arrival_outcome, first_due, expired_at, after_expire, after_call}
-use Rattle.wf_uplink.proofs.Moves.{arrived_fair}
+use Rattle.wf_uplink.specs.World.{World, Expire, rate_of, is_open, place_of, tids_of_station, reordering_at, reordering_of, rates_of_answers, around_octets, frame_air_of, count_of, released_in, given_up_in, with_outcome, arrival_outcome, asked_outcome, first_due, expired_at, after_expire, after_call}
+use Rattle.wf_uplink.proofs.Moves.{arrived_fair, requested_fair}
 use Rattle.wf_uplink.proofs.Worlds.{with_frames, outcome_sound, place_within, same_station, not_none, expiring, expired_sound}
-use Rattle.wf_uplink.proofs.Watching.{outcome_watched, arrived_since, timed_out_since, released_seen, given_up_seen}
+use Rattle.wf_uplink.proofs.Watching.{outcome_watched, arrived_since, requested_since, timed_out_since, released_seen, given_up_seen}
 
 -- ---- the world after a frame, or after a timeout, of the reordering at a place
 
 pub record IsCounted (place new : ℕ) (w : World) (o : ReorderingOutcome) (r : Reordering)
     (released back given : ℕ) (waits : List ℕ) : Type 0 where
-  pub world : world_of w.clock w.rates (set w.reorderings place r) (w.frames + new) (w.up + released)
+  pub world : world_of w.clock w.rates (set w.reorderings place r) w.sides (w.frames + new) (w.up + released)
       (w.back + back) (w.missing + given) ≡ with_outcome place o (with_frames new w)
-  pub sound : IsSound (world_of w.clock w.rates (set w.reorderings place r) (w.frames + new) (w.up + released)
-      (w.back + back) (w.missing + given))
-  pub watched : IsWatched (world_of w.clock w.rates (set w.reorderings place r) (w.frames + new)
+  pub sound : IsSound (world_of w.clock w.rates (set w.reorderings place r) w.sides (w.frames + new)
+      (w.up + released) (w.back + back) (w.missing + given))
+  pub watched : IsWatched (world_of w.clock w.rates (set w.reorderings place r) w.sides (w.frames + new)
       (w.up + released) (w.back + back) (w.missing + given)) waits
 
 pub counted : (place new : ℕ) (w : World) (o : ReorderingOutcome) (r : Reordering) (items : List UpItem)
@@ -39,11 +42,11 @@ counted place new w o r items released back given before after whole sound watch
     old tree =
     let ups : released ≡ released_in o.passed = up ∙ ap (count_by is_frame) f ∙ released_seen o.passed in
     let gaps : given ≡ given_up_in o.passed = missing ∙ ap (sum_by missing_of) f ∙ given_up_seen o.passed in
-    let is : world_of w.clock w.rates (set w.reorderings place r) (w.frames + new) (w.up + released)
+    let is : world_of w.clock w.rates (set w.reorderings place r) w.sides (w.frames + new) (w.up + released)
     (w.back + back) (w.missing + given) ≡ with_outcome place o (with_frames new w) =
-    ap₂ (λ (q : Reordering) n. world_of w.clock w.rates (set w.reorderings place q) (w.frames + new)
+    ap₂ (λ (q : Reordering) n. world_of w.clock w.rates (set w.reorderings place q) w.sides (w.frames + new)
     (w.up + n) (w.back + back) (w.missing + given)) e ups
-    ∙ ap₂ (λ n m. world_of w.clock w.rates (set w.reorderings place o.after) (w.frames + new)
+    ∙ ap₂ (λ n m. world_of w.clock w.rates (set w.reorderings place o.after) w.sides (w.frames + new)
     (w.up + released_in o.passed) (w.back + n) (w.missing + m)) old gaps in
     let low : place < 2048 = let size = whole.size in let few = watched.stations in
     omega (arith, size, few, within) in
@@ -79,8 +82,28 @@ heard s t bits w r items old released back given before after live t8 sound watc
     watched within (arrived_since bits w.frames w.clock (reordering_of w s t)
     (watched.since (place_of s t))) e f up missing (backs ∙ ap count_of g) tree
 
+-- the charge of a frame, from the octets of its body
+pub frame_air_is : (side : SideValue) (rate : Rate) (octets : List ℕ) (body air : ℕ) (plain : Bool) →
+    body + 26 ≡ length octets → plain ≡ is_plain_side side →
+    air ≡ (if plain then plain_charge rates_of_answers rate (plain_octets rate (body ∷ []))
+    else data_charge rates_of_answers rate (body + overhead_octets) false) →
+    air ≡ frame_air_of side (Some rate) octets
+frame_air_is (Agreed board) rate octets body air false size e is =
+    is ∙ ap (λ n. data_charge rates_of_answers rate n false) (more body (length octets) size)
+  where
+    more : (b n : ℕ) → b + 26 ≡ n → b + overhead_octets ≡ n + around_octets
+    more b n e = omega (arith, e)
+frame_air_is (Agreed board) rate octets body air true size e is = absurd (grind (arith, e))
+frame_air_is (Plain last) rate octets body air true size e is =
+    is ∙ ap (λ n. plain_charge rates_of_answers rate (plain_octets rate (n ∷ [])))
+    (less body (length octets) size)
+  where
+    less : (b n : ℕ) → b + 26 ≡ n → b ≡ n - 26
+    less b n e = omega (arith, e)
+frame_air_is (Plain last) rate octets body air false size e is = absurd (grind (arith, e))
+
 -- a slice that covers the whole list, after a write through it
-pub back_whole : (size : ℕ) (new old : List Reordering) → length new ≡ length old → size ≡ length old →
+pub back_whole : {A : Type 0} (size : ℕ) (new old : List A) → length new ≡ length old → size ≡ length old →
     take size (new ++ drop (length new) old) ≡ new
 back_whole size new old same all =
     ap (λ ys. take size (new ++ ys)) (drop_all (length new) old (omega (arith, same)))
@@ -127,6 +150,34 @@ timed place w r items released given before after due sound watched e f up missi
   where
     more : (n : ℕ) → n ≡ n + 0
     more n = omega arith
+
+-- a request
+pub moved : (s t bits : ℕ) (w : World) (r : Reordering) (items : List UpItem) (released given : ℕ)
+    (before after : List ℕ) →
+    is_open w s ≡ true → t < tids_of_station → IsSound w → IsWatched w before →
+    r ≡ (asked_outcome (place_of s t) bits w).after →
+    items ≡ map item_of (asked_outcome (place_of s t) bits w).passed →
+    released ≡ count_by is_frame items → given ≡ sum_by missing_of items →
+    after ≡ set before (place_of s t) (worth_of (waits_since_of r)) →
+    IsCounted (place_of s t) 0 w (asked_outcome (place_of s t) bits w) r released 0 given after
+moved s t bits w r items released given before after live t8 sound watched e f up missing tree =
+    let within = place_within w sound s t t8 live in
+    let o : ReorderingOutcome = asked_outcome (place_of s t) bits w in
+    counted (place_of s t) 0 w o r items released 0 given before after sound
+    (outcome_sound w (place_of s t) 0 o sound within
+    (λ station tid low shut same. not_none (rate_of w s) live
+    (ap (rate_of w) (sym (same_station station tid s t low t8 same)) ∙ shut))
+    (requested_fair bits w.clock (reordering_of w s t) (sound.orderly (place_of s t))))
+    watched within (requested_since bits w.clock (reordering_of w s t)
+    (watched.since (place_of s t))) e f up missing
+    (sym (ap count_of (request_old (place_of s t) bits w))) tree
+
+pub no_frames : (w : World) (place : ℕ) (o : ReorderingOutcome) →
+    with_outcome place o (with_frames 0 w) ≡ with_outcome place o w
+no_frames w place o = ap (λ n. with_outcome place o (record w { frames = n })) (same w.frames)
+  where
+    same : (n : ℕ) → n + 0 ≡ n
+    same n = omega arith
 
 pub no_more_frames : (w : World) (place : ℕ) →
     with_outcome place (timed_out w.clock (reordering_at w place)) (with_frames 0 w) ≡ expired_at place w

@@ -3,6 +3,7 @@ pub mod Calls
 pub mod Heard
 pub mod Moves
 mod Numbers
+pub mod PlainCalls
 mod Standing
 mod Steps
 mod Told

@@ -3,7 +3,7 @@
 use Rattle.std.proofs.Common.{◌≡◌, ℕ, ◌+◌, ◌-◌, ◌*◌, ◌<◌, ◌≤◌, ◌==◌, ◌||◌, not, nat_lt, nat_le, Bool, true, false, List, [], ◌∷◌, ◌++◌, length, Option, Some, None, refl, ap, arith, length-append, if◌then◌else◌}
 use Rattle.std.proofs.lemmas.Bool.Decides.{nat_tests}
 use Rattle.wf_octets.specs.Distance.{distance}
-use Rattle.wf_uplink.specs.Reordering.{Reordering, Stored, Passed, Released, GivenUp, ReorderingOutcome, number_read, is_none_stored, is_stored, with_stored, stored_from, least_stored, first_hole, gap, holes_told, moved_to, waiting, then_stored, stored_at, given_back, number_arrived, arrived, timed_out}
+use Rattle.wf_uplink.specs.Reordering.{Reordering, Stored, Passed, Released, GivenUp, ReorderingOutcome, number_read, is_none_stored, is_stored, with_stored, stored_from, least_stored, first_hole, gap, holes_told, moved_to, waiting, then_stored, stored_at, given_back, number_arrived, arrived, unmoved, start_arrived, requested, timed_out}
 use Rattle.wf_uplink.specs.World.{released_in, count_of}
 use Rattle.wf_uplink.specs.Laws.{Covers}
 use Rattle.wf_uplink.specs.Soundness.{StoredFrom, ReorderingIsOrderly}
@@ -213,6 +213,23 @@ pub arrived_fair : (bits id now : ℕ) (r : Reordering) → ReorderingIsOrderly 
     IsFair 1 r (arrived bits id now r)
 arrived_fair bits id now r s = number_fair (number_read bits r.start) id now r s
     (λ k e. read_least bits r.start k e)
+
+read_from : (n : ℕ) (now : ℕ) (r : Reordering) → ReorderingIsOrderly r →
+    IsFair 0 r (start_arrived (Some n) now r)
+read_from n now r s =
+    choose (IsFair 0 r) (nat_lt r.start n) (waiting now r (moved_to n r)) (unmoved r)
+    (λ past. let le : r.start ≤ n = grind (arith, nat_tests, past) in
+    waiting_fair 0 now r r (moved_to n r) (moved_fair n r s le))
+    (λ _. stays_fair r s)
+
+start_fair : (n : Option ℕ) (now : ℕ) (r : Reordering) → ReorderingIsOrderly r →
+    IsFair 0 r (start_arrived n now r)
+start_fair None now r s = stays_fair r s
+start_fair (Some n) now r s = read_from n now r s
+
+pub requested_fair : (bits now : ℕ) (r : Reordering) → ReorderingIsOrderly r →
+    IsFair 0 r (requested bits now r)
+requested_fair bits now r s = start_fair (number_read bits r.start) now r s
 
 least_from : (b : ℕ) (xs : List Stored) → StoredFrom b xs → b ≤ least_stored b xs
 least_from b [] s = omega arith

@@ -7,9 +7,9 @@ use Rattle.std.proofs.lemmas.List.Sums.{position_or_len_is, sum_by-cons}
 use Rattle.wf_def_air.specs.Airtime.{Rate, lowest_rate}
 use Rattle.wf_queue_parts.specs.Best.{IsFirstFrom}
 use Rattle.wf_uplink.specs.declared.items.UpItem.{UpItem}
-use Rattle.wf_uplink.specs.Reordering.{Reordering, Stored, Passed, Released, GivenUp, ReorderingOutcome, unopened, new_reordering, number_read, is_none_stored, is_stored, least_stored, moved_to, waiting, with_room_for, stored_at, given_back, number_arrived, arrived, is_due, time_limit, timed_out, waits_since_of}
+use Rattle.wf_uplink.specs.Reordering.{Reordering, Stored, Passed, Released, GivenUp, ReorderingOutcome, unopened, new_reordering, number_read, is_none_stored, is_stored, least_stored, moved_to, waiting, with_room_for, stored_at, given_back, number_arrived, arrived, unmoved, start_arrived, requested, is_due, time_limit, timed_out, waits_since_of}
 use Rattle.wf_uplink.specs.Shown.{item_of, is_frame, missing_of}
-use Rattle.wf_uplink.specs.World.{World, place_of, tids_of_station, reordering_at, released_in, given_up_in, with_outcome, opened, begun, first_due, new_world}
+use Rattle.wf_uplink.specs.World.{World, place_of, tids_of_station, reordering_at, released_in, given_up_in, with_outcome, opened, plain_opened, begun, first_due, new_world}
 use Rattle.wf_uplink.specs.Soundness.{IsSound, IsWatched, latest, worth_of}
 use Rattle.wf_uplink.proofs.Moves.{choose}
 use Rattle.wf_uplink.proofs.Worlds.{set_cases, with_frames, same_or_not, begun_cases, begun_other, begun_here, IsOpening}
@@ -39,6 +39,17 @@ number_since (Some n) id now r le =
 pub arrived_since : (bits id now : ℕ) (r : Reordering) → r.since ≤ now →
     (arrived bits id now r).after.since ≤ now
 arrived_since bits id now r le = number_since (number_read bits r.start) id now r le
+
+start_since : (n : Option ℕ) (now : ℕ) (r : Reordering) → r.since ≤ now →
+    (start_arrived n now r).after.since ≤ now
+start_since None now r le = le
+start_since (Some n) now r le =
+    choose (λ (o : ReorderingOutcome). o.after.since ≤ now) (nat_lt r.start n)
+    (waiting now r (moved_to n r)) (unmoved r) (λ _. waiting_since now r (moved_to n r) le) (λ _. le)
+
+pub requested_since : (bits now : ℕ) (r : Reordering) → r.since ≤ now →
+    (requested bits now r).after.since ≤ now
+requested_since bits now r le = start_since (number_read bits r.start) now r le
 
 pub timed_out_since : (now : ℕ) (r : Reordering) → r.since ≤ now → (timed_out now r).after.since ≤ now
 timed_out_since now r le = waiting_since now r (moved_to (least_stored r.start r.stored) r) le
@@ -173,6 +184,17 @@ pub rate_watched : (station : ℕ) (rate : Rate) (w : World) (waits : List ℕ) 
 rate_watched station rate w waits h = record {
   size = h.size;
   stations = let same = length-set w.rates station (Some rate) in let few = h.stations in
+      omega (arith, same, few);
+  early = h.early;
+  since = h.since;
+  worths = h.worths;
+}
+
+pub plain_opened_watched : (station : ℕ) (w : World) (waits : List ℕ) → IsWatched w waits →
+    IsWatched (plain_opened station w) waits
+plain_opened_watched station w waits h = record {
+  size = h.size;
+  stations = let same = length-set w.rates station (Some lowest_rate) in let few = h.stations in
       omega (arith, same, few);
   early = h.early;
   since = h.since;

@@ -12,12 +12,18 @@ use Rattle.wf_uplink.specs.declared.fault.OpenFault.{OpenFault}
 use Rattle.wf_uplink.specs.declared.fault.OpenFault.TheVariants.{BadStation, BadWindow, BadStart, Live}
 use Rattle.wf_uplink.specs.declared.fault.UplinkFault.{UplinkFault}
 use Rattle.wf_uplink.specs.declared.fault.UplinkFault.TheVariants.{NotMine}
-use Rattle.wf_uplink.specs.Frames.{sender_of, is_addressed, tid_in_control, header_fault, kind_fault, uplink_tid_fault, length_fault}
+use Rattle.wf_uplink.specs.declared.fault.RequestFault.{RequestFault}
+use Rattle.wf_uplink.specs.declared.fault.RequestFault.TheVariants.{NotMine as NotMineRequest, NotAgreed}
+use Rattle.wf_recv_peer.specs.Board.{empty_board}
+use Rattle.wf_recv_peer.specs.Plain.{is_repeat, retry_of}
+use Rattle.wf_uplink.specs.Requests.{is_request_addressed, request_tid, request_start, request_header_fault, request_kind_fault, request_form_fault, request_tid_fault}
+use Rattle.wf_uplink.specs.Sides.{SideValue, Agreed, Plain, unopened_side, is_plain_side, side_after, side_asked}
+use Rattle.wf_uplink.specs.Frames.{sender_of, is_addressed, tid_in_control, sequence_of, header_fault, kind_fault, uplink_tid_fault, length_fault}
 use Rattle.wf_uplink.specs.Reordering.{Reordering, ReorderingOutcome, new_reordering, unopened, is_none_stored, is_due}
-use Rattle.wf_uplink.specs.World.{World, Call, Open, SetRate, Receive, Tick, Expire, new_world, rate_of, is_open, place_of, tids_of_station, reordering_at, reordering_of, open_fault, begun, opened, is_mine, mine_fault, receive_fault, released_in, given_up_in, with_outcome, receive_outcome, received, first_due, timeout_outcome, expired_at, after_open, after_receive, after_expire, after_call, after_calls}
+use Rattle.wf_uplink.specs.World.{World, Call, Open, OpenPlain, SetRate, Receive, Request, Tick, Expire, new_world, rate_of, is_open, place_of, tids_of_station, reordering_at, reordering_of, place_side, with_tid_side, open_fault, open_plain_fault, begun, sided, opened, plain_opened, is_mine, mine_fault, receive_fault, released_in, given_up_in, count_of, with_outcome, place_of_frame, side_of_frame, arrival_outcome, arrived_at, plain_taken, accepted, recorded, received, place_of_request, is_request_mine, request_mine_fault, agreed_fault, first_request_fault, asked_outcome, moved_at, requested, first_due, timeout_outcome, expired_at, after_open, after_open_plain, after_receive, after_request, after_expire, after_call, after_calls}
 use Rattle.wf_uplink.specs.Soundness.{ReorderingIsOrderly, IsSound}
 use Rattle.wf_uplink.proofs.Told.{covers_count}
-use Rattle.wf_uplink.proofs.Moves.{choose, IsFair, arrived_fair, timed_out_fair}
+use Rattle.wf_uplink.proofs.Moves.{choose, IsFair, arrived_fair, requested_fair, timed_out_fair}
 
 -- ---- lists
 
@@ -92,6 +98,7 @@ outcome_sound w place new o sound within other fair =
     let sums = held_after w.reorderings place o.after d within in
     record {
       size = length-set w.reorderings place o.after ∙ sound.size;
+      sides = sound.sides ∙ sym (length-set w.reorderings place o.after);
       orderly = λ k. set_cases ReorderingIsOrderly w.reorderings place k o.after d fair.orderly
           (sound.orderly k);
       bound = λ k. set_cases (λ (r : Reordering). r.start
@@ -143,15 +150,117 @@ taken octets w e =
     tid_below octets f = let t = none_where (nat_lt (tid_in_control octets) 8) _ f in
         grind (arith, nat_tests, t)
 
+pub side_sound : (place : ℕ) (side : SideValue) (w : World) → IsSound w → IsSound (with_tid_side place side w)
+side_sound place side w sound = record {
+  size = sound.size;
+  sides = length-set w.sides place side ∙ sound.sides;
+  orderly = sound.orderly;
+  bound = sound.bound;
+  closed = sound.closed;
+  each_frame = sound.each_frame;
+}
+
+pub arrived_sound : (s k bits : ℕ) (w : World) → IsSound w → k < tids_of_station → is_open w s ≡ true →
+    IsSound (arrived_at (place_of s k) bits w)
+arrived_sound s k bits w sound low live =
+    outcome_sound w (place_of s k) 1 (arrival_outcome (place_of s k) bits w) sound
+    (place_within w sound s k low live)
+    (λ station tid t8 none same. not_none (rate_of w s) live
+    (ap (λ n. rate_of w n) (sym (same_station station tid s k t8 low same)) ∙ none))
+    (arrived_fair _ _ _ (reordering_of w s k) (sound.orderly (place_of s k)))
+
+-- a repeat, or a frame that is released at once
+one_or_none : (repeat : Bool) → count_of (not repeat) + count_of repeat ≡ 1
+one_or_none true = refl
+one_or_none false = refl
+
+pub taken_sound : (repeat : Bool) (w : World) → IsSound w → IsSound (plain_taken repeat w)
+taken_sound repeat w sound = record {
+  size = sound.size;
+  sides = sound.sides;
+  orderly = sound.orderly;
+  bound = λ place. let old = sound.bound place in omega (arith, old);
+  closed = sound.closed;
+  each_frame = let all = sound.each_frame in let one = one_or_none repeat in omega (arith, all, one);
+}
+
+accepted_sound : (side : SideValue) (s k : ℕ) (retry : Bool) (bits : ℕ) (w : World) → IsSound w →
+    k < tids_of_station → is_open w s ≡ true → IsSound (accepted side (place_of s k) retry bits w)
+accepted_sound (Agreed board) s k retry bits w sound low live = arrived_sound s k bits w sound low live
+accepted_sound (Plain last) s k retry bits w sound low live =
+    taken_sound (is_repeat last retry bits) w sound
+
+pub recorded_sound : (place bits : ℕ) (w : World) → IsSound w → IsSound (recorded place bits w)
+recorded_sound place bits w sound = side_sound place (side_after bits (place_side w place)) w sound
+
 pub received_sound : (octets : List ℕ) (w : World) → IsSound w → IsTaken octets w →
     IsSound (received octets w)
 received_sound octets w sound t =
-    let s : ℕ = sender_of octets in
-    let k : ℕ = tid_in_control octets in
-    outcome_sound w (place_of s k) 1 (receive_outcome octets w) sound (place_within w sound s k t.tid t.live)
-    (λ station tid t8 none same. not_none (rate_of w s) t.live
-    (ap (λ n. rate_of w n) (sym (same_station station tid s k t8 t.tid same)) ∙ none))
-    (arrived_fair _ _ _ (reordering_of w s k) (sound.orderly (place_of s k)))
+    let v : World = accepted (side_of_frame octets w) (place_of_frame octets) (retry_of octets)
+    (sequence_of octets) w in
+    recorded_sound (place_of_frame octets) (sequence_of octets) v
+    (accepted_sound (side_of_frame octets w) (sender_of octets) (tid_in_control octets) (retry_of octets)
+    (sequence_of octets) w sound t.tid t.live)
+
+-- ---- a request
+
+-- a request without fault belongs to an open station, and to a TID below 8 with an agreement
+pub record IsAsked (octets : List ℕ) (w : World) : Type 0 where
+  pub live : is_open w (sender_of octets) ≡ true
+  pub tid : request_tid octets < tids_of_station
+  pub agreed : is_plain_side (place_side w (place_of_request octets)) ≡ false
+
+some_where : {A : Type 0} (b : Bool) (x : A) → (if b then Some x else None) ≡ None → b ≡ false
+some_where false x e = refl
+some_where true x e = absurd (grind (arith, e))
+
+pub asked : (octets : List ℕ) (w : World) → first_request_fault octets w ≡ None → IsAsked octets w
+asked octets w e =
+    let past_header = or_none (request_header_fault octets)
+    (option_or (request_kind_fault octets) (option_or (request_form_fault octets)
+    (option_or (request_mine_fault octets w)
+    (option_or (request_tid_fault octets) (agreed_fault octets w))))) e in
+    let past_kind = or_none (request_kind_fault octets) (option_or (request_form_fault octets)
+    (option_or (request_mine_fault octets w)
+    (option_or (request_tid_fault octets) (agreed_fault octets w)))) past_header.1 in
+    let past_form = or_none (request_form_fault octets) (option_or (request_mine_fault octets w)
+    (option_or (request_tid_fault octets) (agreed_fault octets w))) past_kind.1 in
+    let past_mine = or_none (request_mine_fault octets w)
+    (option_or (request_tid_fault octets) (agreed_fault octets w)) past_form.1 in
+    let past_tid = or_none (request_tid_fault octets) (agreed_fault octets w) past_mine.1 in
+    let mine = both (is_request_addressed octets) (is_open w (sender_of octets))
+    (none_where (is_request_mine octets w) NotMineRequest past_mine.0) in
+    let below = tid_below octets past_tid.0 in
+    record {
+      live = mine.1;
+      tid = below;
+      agreed = some_where (is_plain_side (place_side w (place_of_request octets))) NotAgreed past_tid.1;
+    }
+  where
+    tid_below : (octets : List ℕ) → request_tid_fault octets ≡ None → request_tid octets < tids_of_station
+    tid_below octets f = let t = none_where (nat_lt (request_tid octets) 8) _ f in
+        grind (arith, nat_tests, t)
+
+more_none : (n : ℕ) → n + 0 ≡ n
+more_none n = omega arith
+
+pub moved_sound : (s k bits : ℕ) (w : World) → IsSound w → k < tids_of_station → is_open w s ≡ true →
+    IsSound (moved_at (place_of s k) bits w)
+moved_sound s k bits w sound low live =
+    subst (λ n. IsSound (with_outcome (place_of s k) (asked_outcome (place_of s k) bits w)
+    (record w { frames = n }))) (more_none w.frames)
+    (outcome_sound w (place_of s k) 0 (asked_outcome (place_of s k) bits w) sound
+    (place_within w sound s k low live)
+    (λ station tid t8 none same. not_none (rate_of w s) live
+    (ap (λ n. rate_of w n) (sym (same_station station tid s k t8 low same)) ∙ none))
+    (requested_fair bits w.clock (reordering_of w s k) (sound.orderly (place_of s k))))
+
+requested_sound : (octets : List ℕ) (w : World) → IsSound w → IsAsked octets w → IsSound (requested octets w)
+requested_sound octets w sound a =
+    let v : World = moved_at (place_of_request octets) (request_start octets) w in
+    side_sound (place_of_request octets)
+    (side_asked (request_start octets) (place_side v (place_of_request octets))) v
+    (moved_sound (sender_of octets) (request_tid octets) (request_start octets) w sound a.tid a.live)
 
 -- ---- a timeout
 
@@ -164,7 +273,7 @@ expiring place w e =
     let found = position-Some (is_due w.clock) w.reorderings place unopened e in
     record { within = found.0; due = found.1 }
 
-due_stores : (now : ℕ) (r : Reordering) → is_due now r ≡ true → r.stored ≡ [] → ⊥
+pub due_stores : (now : ℕ) (r : Reordering) → is_due now r ≡ true → r.stored ≡ [] → ⊥
 due_stores now r due none =
     let some = both (not (is_none_stored r.stored)) (nat_le (r.since + 100000) now) due in
     let empty : is_none_stored r.stored ≡ true = ap is_none_stored none in
@@ -183,6 +292,41 @@ expired_sound place w sound x =
     same n = omega arith
 
 -- ---- a station is opened
+
+pub sided_length : (n station : ℕ) (side : SideValue) (sides : List SideValue) →
+    length (sided n station side sides) ≡ length sides
+sided_length zero station side sides = refl
+sided_length (suc n) station side sides =
+    length-set (sided n station side sides) (place_of station n) side ∙ sided_length n station side sides
+
+-- the sides of other stations do not change
+pub sided_other : (n station place : ℕ) (side : SideValue) (sides : List SideValue) (d : SideValue) →
+    ((t : ℕ) → t < n → place ≢ place_of station t) →
+    get_or (sided n station side sides) place d ≡ get_or sides place d
+sided_other zero station place side sides d other = refl
+sided_other (suc n) station place side sides d other =
+    get_or-set_other (sided n station side sides) (place_of station n) place side d (other n (omega arith))
+    ∙ sided_other n station place side sides d (λ t below. other t (omega (arith, below)))
+
+pub sided_here : (n station tid : ℕ) (side : SideValue) (sides : List SideValue) (d : SideValue) → tid < n →
+    n ≤ tids_of_station → place_of station n ≤ length sides →
+    get_or (sided n station side sides) (place_of station tid) d ≡ side
+sided_here zero station tid side sides d below most within = absurd (omega (arith, below))
+sided_here (suc n) station tid side sides d below most within =
+    elim (before_or_last tid n below) [
+      | inl before ↦
+          get_or-set_other (sided n station side sides) (place_of station n) (place_of station tid)
+          side d (λ e. omega (arith, e, before))
+          ∙ sided_here n station tid side sides d before (omega (arith, most)) (omega (arith, within))
+      | inr last ↦
+          let inside : place_of station n < length (sided n station side sides) = let same =
+          sided_length n station side sides in omega (arith, within, same) in
+          ap (λ t. get_or (sided (suc n) station side sides) (place_of station t) d) last
+          ∙ get_or-set_same (sided n station side sides) (place_of station n) side d inside
+    ]
+  where
+    before_or_last : (a b : ℕ) → a < suc b → (a < b) ⊎ (a ≡ b)
+    before_or_last a b below = grind (arith, below)
 
 pub begun_length : (n station window start : ℕ) (rs : List Reordering) →
     length (begun n station window start rs) ≡ length rs
@@ -294,6 +438,8 @@ opened_sound station window start w sound x =
     record {
       size = begun_length tids_of_station station window start w.reorderings ∙ sound.size
           ∙ ap (λ n. tids_of_station * n) (sym (length-set w.rates station (Some lowest_rate)));
+      sides = sided_length tids_of_station station (Agreed (empty_board start window)) w.sides ∙ sound.sides
+          ∙ sym (begun_length tids_of_station station window start w.reorderings);
       orderly = λ place. begun_cases ReorderingIsOrderly tids_of_station station window start place
           w.reorderings d (record { window = some; rising = tt }) (sound.orderly place);
       bound = λ place. begun_cases (λ (r : Reordering). r.start ≤ 4095 + (w.up + w.missing)) tids_of_station
@@ -315,29 +461,60 @@ opened_sound station window start w sound x =
           | inr differ ↦ sym (get_or-set_other w.rates station other (Some lowest_rate) None differ) ∙ none
         ]
 
+-- a station that can be opened without agreements exists and is not open
+pub record IsOpeningPlain (station : ℕ) (w : World) : Type 0 where
+  pub within : station < length w.rates
+  pub shut : rate_of w station ≡ None
+
+pub opening_plain : (station : ℕ) (w : World) → open_plain_fault station w ≡ None → IsOpeningPlain station w
+opening_plain station w =
+    choose (λ f. f ≡ None → IsOpeningPlain station w) (not (nat_lt station (length w.rates)))
+    (Some BadStation) (if is_open w station then Some Live else None)
+    (λ _ e. absurd (grind (arith, e)))
+    (λ inside. choose (λ f. f ≡ None → IsOpeningPlain station w) (is_open w station) (Some Live) None
+    (λ _ e. absurd (grind (arith, e)))
+    (λ shut _. record {
+      within = grind (arith, nat_tests, inside);
+      shut = none_of (rate_of w station) shut;
+    }))
+
+-- a station that is not open after a station got a rate was not open before
+pub shut_before_rate : (station other : ℕ) (rate : Rate) (w : World) → station < length w.rates →
+    get_or (set w.rates station (Some rate)) other None ≡ None → rate_of w other ≡ None
+shut_before_rate station other rate w within none =
+    elim (same_or_not other station) [
+      | inl same ↦
+          absurd (not_none (get_or (set w.rates station (Some rate)) other None)
+          (ap (λ n. is_some (get_or (set w.rates station (Some rate)) n None)) same
+          ∙ ap is_some (get_or-set_same w.rates station (Some rate) None within)) none)
+      | inr differ ↦ sym (get_or-set_other w.rates station other (Some rate) None differ) ∙ none
+    ]
+
+pub plain_opened_sound : (station : ℕ) (w : World) → IsSound w → IsOpeningPlain station w →
+    IsSound (plain_opened station w)
+plain_opened_sound station w sound x = record {
+  size = sound.size ∙ ap (λ n. tids_of_station * n) (sym (length-set w.rates station (Some lowest_rate)));
+  sides = sided_length tids_of_station station (Plain None) w.sides ∙ sound.sides;
+  orderly = sound.orderly;
+  bound = sound.bound;
+  closed = λ other tid t8 none. sound.closed other tid t8
+      (shut_before_rate station other lowest_rate w x.within none);
+  each_frame = sound.each_frame;
+}
+
 -- ---- a rate
 
 pub rate_sound : (station : ℕ) (rate : Rate) (w : World) → IsSound w → is_open w station ≡ true →
     IsSound (record w { rates = set w.rates station (Some rate) })
 rate_sound station rate w sound live = record {
   size = sound.size ∙ ap (λ n. tids_of_station * n) (sym (length-set w.rates station (Some rate)));
+  sides = sound.sides;
   orderly = sound.orderly;
   bound = sound.bound;
-  closed = λ other tid t8 none. sound.closed other tid t8 (shut_before other none);
+  closed = λ other tid t8 none. sound.closed other tid t8
+      (shut_before_rate station other rate w (some_within w.rates station live) none);
   each_frame = sound.each_frame;
 }
-  where
-    shut_before : (other : ℕ) → get_or (set w.rates station (Some rate)) other None ≡ None →
-        rate_of w other ≡ None
-    shut_before other none =
-        elim (same_or_not other station) [
-          | inl same ↦
-              absurd (not_none (get_or (set w.rates station (Some rate)) other None)
-              (ap (λ n. is_some (get_or (set w.rates station (Some rate)) n None)) same
-              ∙ ap is_some (get_or-set_same w.rates station (Some rate) None
-              (some_within w.rates station live))) none)
-          | inr differ ↦ sym (get_or-set_other w.rates station other (Some rate) None differ) ∙ none
-        ]
 
 -- ---- every call
 
@@ -345,6 +522,8 @@ pub new_sound : (stations : ℕ) → IsSound (new_world stations)
 new_sound stations = record {
   size = length-replicate (tids_of_station * stations) unopened
       ∙ ap (λ n. tids_of_station * n) (sym (length-replicate {A = Option Rate} stations None));
+  sides = length-replicate (tids_of_station * stations) unopened_side
+      ∙ sym (length-replicate (tids_of_station * stations) unopened);
   orderly = λ place. subst ReorderingIsOrderly (sym (here place))
       (record { window = omega arith; rising = tt });
   bound = λ place. subst (λ (r : Reordering). r.start ≤ 4095 + (0 + 0)) (sym (here place)) (omega arith);
@@ -370,6 +549,17 @@ open_sound station window start w None sound e =
     opened_sound station window start w sound (opening station window start w e)
 open_sound station window start w (Some fault) sound e = sound
 
+open_plain_sound : (station : ℕ) (w : World) (f : Option OpenFault) → IsSound w →
+    open_plain_fault station w ≡ f → IsSound (after_open_plain f station w)
+open_plain_sound station w None sound e =
+    plain_opened_sound station w sound (opening_plain station w e)
+open_plain_sound station w (Some fault) sound e = sound
+
+request_sound : (octets : List ℕ) (w : World) (f : Option RequestFault) → IsSound w →
+    first_request_fault octets w ≡ f → IsSound (after_request f octets w)
+request_sound octets w None sound e = requested_sound octets w sound (asked octets w e)
+request_sound octets w (Some fault) sound e = sound
+
 receive_sound : (octets : List ℕ) (w : World) (f : Option UplinkFault) → IsSound w →
     receive_fault octets w ≡ f → IsSound (after_receive f octets w)
 receive_sound octets w None sound e = received_sound octets w sound (taken octets w e)
@@ -383,13 +573,17 @@ pub call_sound : (call : Call) (w : World) → IsSound w → IsSound (after_call
 unfolding after_call
 call_sound (Open station window start) w sound =
     open_sound station window start w (open_fault station window start w) sound refl
+call_sound (OpenPlain station) w sound = open_plain_sound station w (open_plain_fault station w) sound refl
 call_sound (SetRate station rate) w sound =
     choose IsSound (is_open w station) (record w { rates = set w.rates station (Some rate) }) w
     (rate_sound station rate w sound) (λ _. sound)
 call_sound (Receive octets) w sound = receive_sound octets w (receive_fault octets w) sound refl
+call_sound (Request octets) w sound =
+    request_sound octets w (first_request_fault octets w) sound refl
 call_sound (Tick by) w sound =
     record {
       size = sound.size;
+      sides = sound.sides;
       orderly = sound.orderly;
       bound = sound.bound;
       closed = sound.closed;

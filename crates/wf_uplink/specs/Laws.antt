@@ -1,8 +1,13 @@
 -- Defines the laws of the uplink, which hold after every list of calls.
 use Rattle.std.specs.Prelude.{◌≡◌, ℕ, ◌+◌, ◌%◌, ◌<◌, ◌≤◌, ◌==◌, nat_lt, nat_le, ◌&&◌, ◌⊎◌, false, List, [], ◌∷◌, length, sum_by, flat_map, Option, Some, None, if◌then◌else◌}
-use Rattle.wf_def_air.specs.Airtime.{Rate, data_charge}
+use Rattle.wf_def_air.specs.Airtime.{Rate, data_charge, plain_charge, request_charge}
+use Rattle.wf_def_air.specs.Fit.{plain_octets}
+use Rattle.wf_recv_peer.specs.Board.{Board}
+use Rattle.wf_recv_peer.specs.Plain.{is_repeat, retry_of}
+use Rattle.wf_uplink.specs.Frames.{sequence_of, body_length}
+use Rattle.wf_uplink.specs.Sides.{SideValue, Agreed, Plain}
 use Rattle.wf_uplink.specs.Reordering.{Passed, Released, GivenUp, number_read}
-use Rattle.wf_uplink.specs.World.{World, Delivery, Call, Answer, Received, TimedOut, new_world, after_calls, answers, reordering_of, rate_of, held, released_in, given_up_in, count_of, around_octets, rates_of_answers}
+use Rattle.wf_uplink.specs.World.{World, Delivery, Call, Receive, Answer, Received, Requested, TimedOut, new_world, after_calls, answer, answers, reordering_of, tid_side, rate_of, held, released_in, given_up_in, count_of, around_octets, rates_of_answers}
 
 -- ---- the numbers that are passed
 
@@ -41,6 +46,7 @@ times_given_up n (GivenUp first count ∷ later) =
 
 abbrev pub delivery_in : Answer → Option Delivery
 delivery_in (Received d) = Some d
+delivery_in (Requested d board) = Some d
 delivery_in (TimedOut d) = Some d
 delivery_in _ = None
 
@@ -103,10 +109,48 @@ pub record TotalsLaw (stations : ℕ) (calls : List Call) : Type 0 where
   pub missing : (after_calls (new_world stations) calls).missing
       ≡ sum_by given_up_by (answers (new_world stations) calls)
 
--- a frame is charged the airtime of its octets, and of the eight around them, at its station's rate
+-- the charge of a frame at a rate: under an agreement the airtime of its octets, of the eight around them,
+-- and of a BlockAck; otherwise that of a frame alone and of an Ack
+abbrev pub frame_charge : SideValue → Rate → List ℕ → ℕ
+frame_charge (Agreed board) rate octets =
+    data_charge rates_of_answers rate (length octets + around_octets) false
+frame_charge (Plain last) rate octets =
+    plain_charge rates_of_answers rate (plain_octets rate (body_length octets ∷ []))
+
+-- a frame is charged at its station's rate
 abbrev pub IsCharged : World → List ℕ → Delivery → Type 0
 IsCharged w octets d = (rate : Rate) × (rate_of w d.station ≡ Some rate) ×
-    (d.air ≡ data_charge rates_of_answers rate (length octets + around_octets) false)
+    (d.air ≡ frame_charge (tid_side w d.station d.tid) rate octets)
+
+-- a BlockAckReq is charged its own airtime and that of its BlockAck, which is wide if the window is above 64
+abbrev pub IsRequestCharged : World → Delivery → Board → Type 0
+IsRequestCharged w d board = (rate : Rate) × (rate_of w d.station ≡ Some rate) ×
+    (d.air ≡ request_charge rates_of_answers rate (nat_lt 64 board.size))
+
+-- ---- TIDs without an agreement
+
+-- the ids of the released frames
+abbrev pub released_ids : List Passed → List ℕ
+released_ids [] = []
+released_ids (Released id number ∷ later) = id ∷ released_ids later
+released_ids (GivenUp first count ∷ later) = released_ids later
+
+-- the number of the last released frame, or `last` if there is none
+abbrev pub last_released : Option ℕ → List Passed → Option ℕ
+last_released last [] = last
+last_released last (Released id number ∷ later) = last_released (Some number) later
+last_released last (GivenUp first count ∷ later) = last_released last later
+
+-- In a world in which a station was just opened without agreements: after every list of calls, the frames of
+-- its TID were released in the order of their arrival, no number was given up, and a frame that arrives now
+-- is old exactly if it has the Retry bit and the number of the frame that was released last.
+pub record PlainLaw (w : World) (station tid : ℕ) (calls : List Call) : Type 0 where
+  pub in_order : RisesFrom w.frames (released_ids (all_told station tid w calls))
+  pub no_gap : given_up_in (all_told station tid w calls) ≡ 0
+  pub repeats : (octets : List ℕ) (d : Delivery) →
+      answer (Receive octets) (after_calls w calls) ≡ Received d → d.station ≡ station → d.tid ≡ tid →
+      d.old ≡ is_repeat (last_released None (all_told station tid w calls)) (retry_of octets)
+      (sequence_of octets)
 
 -- the twelve bits of a number from b to b + 2047 are read as that number, and those of a number from b - 2048
 -- to below b as none

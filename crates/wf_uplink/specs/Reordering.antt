@@ -149,6 +149,21 @@ number_arrived (Some n) id now r = if is_stored n r.stored then given_back r
 abbrev pub arrived : ℕ → ℕ → ℕ → Reordering → ReorderingOutcome
 arrived bits id now r = number_arrived (number_read bits r.start) id now r
 
+-- ---- a BlockAckReq arrives
+
+-- nothing changes
+abbrev pub unmoved : Reordering → ReorderingOutcome
+unmoved r = record { passed = []; old = false; after = r }
+
+-- B moves to number n, the request's start, if n is past B
+abbrev pub start_arrived : Option ℕ → ℕ → Reordering → ReorderingOutcome
+start_arrived None now r = unmoved r
+start_arrived (Some n) now r = if nat_lt r.start n then waiting now r (moved_to n r) else unmoved r
+
+-- a BlockAckReq whose start has these twelve bits arrives
+abbrev pub requested : ℕ → ℕ → Reordering → ReorderingOutcome
+requested bits now r = start_arrived (number_read bits r.start) now r
+
 -- ---- the time limit
 
 -- the clock at which the current wait began, if a frame is stored

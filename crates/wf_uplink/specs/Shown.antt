@@ -12,10 +12,17 @@ item_of (Released id number) = Frame id (number % 4096)
 item_of (GivenUp from count) = Gap (from % 4096) count
 
 abbrev pub up_of : Delivery → Up
-up_of d = record { station = d.station; tid = d.tid; air = d.air; old = d.old; items = map item_of d.passed }
+up_of d = record {
+  station = d.station;
+  tid = d.tid;
+  air = d.air;
+  old = d.old;
+  ack = d.ack;
+  items = map item_of d.passed;
+}
 
 abbrev pub nothing_up : Up
-nothing_up = record { station = 0; tid = 0; air = 0; old = false; items = [] }
+nothing_up = record { station = 0; tid = 0; air = 0; old = false; ack = false; items = [] }
 
 abbrev pub totals_of : World → Totals
 totals_of w = record { frames = w.frames; up = w.up; old = w.back; held = held w; missing = w.missing }

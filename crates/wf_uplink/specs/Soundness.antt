@@ -2,6 +2,7 @@
 use Rattle.std.specs.Prelude.{◌≡◌, ℕ, ◌+◌, ◌*◌, ◌^◌, ◌-◌, ◌<◌, ◌≤◌, List, [], ◌∷◌, length, slice_index, Option, None, Some}
 use Rattle.wf_def_air.specs.Airtime.{Rate}
 use Rattle.wf_uplink.specs.Reordering.{Reordering, Stored, waits_since_of}
+use Rattle.wf_uplink.specs.Sides.{SideValue}
 use Rattle.wf_uplink.specs.World.{World, tids_of_station, rate_of, reordering_at, reordering_of, held}
 
 -- the numbers stored rise, and the first is at least n
@@ -18,6 +19,7 @@ pub record ReorderingIsOrderly (r : Reordering) : Type 0 where
 -- nothing stored, and each frame is counted once.
 pub record IsSound (w : World) : Type 0 where
   pub size : length w.reorderings ≡ tids_of_station * length w.rates
+  pub sides : length w.sides ≡ length w.reorderings
   pub orderly : (place : ℕ) → ReorderingIsOrderly (reordering_at w place)
   pub bound : (place : ℕ) → (reordering_at w place).start ≤ 4095 + (w.up + w.missing)
   pub closed : (station tid : ℕ) → tid < tids_of_station → rate_of w station ≡ None →
@@ -41,12 +43,13 @@ pub record IsWatched (w : World) (waits : List ℕ) : Type 0 where
   pub since : (place : ℕ) → (reordering_at w place).since ≤ w.clock
   pub worths : (place : ℕ) → slice_index waits place ≡ worth_of (waits_since_of (reordering_at w place))
 
-abbrev pub world_of : ℕ → List (Option Rate) → List Reordering → ℕ → ℕ → ℕ → ℕ → World
-world_of clock rates reorderings frames up back missing =
+abbrev pub world_of : ℕ → List (Option Rate) → List Reordering → List SideValue → ℕ → ℕ → ℕ → ℕ → World
+world_of clock rates reorderings sides frames up back missing =
     record {
       clock = clock;
       rates = rates;
       reorderings = reorderings;
+      sides = sides;
       frames = frames;
       up = up;
       back = back;

@@ -1,7 +1,7 @@
 //! The reordering of one TID.
 
 ghost use Rattle.std.specs.Prelude.{◌≡◌, ◌+◌, ◌^◌, ◌<◌, ◌≤◌, ◌++◌, ◌⊎◌, ◌==◌, ◌||◌, not, [], length, map, true, false, Some, if◌then◌else◌, IfOk, IfSome};
-ghost use Rattle.wf_uplink.specs.Reordering.{new_reordering, unopened, is_none_stored, is_stored, first_number, least_stored, moved_to, with_frame, with_room_for, number_arrived, arrived, timed_out, waits_since_of};
+ghost use Rattle.wf_uplink.specs.Reordering.{new_reordering, unopened, is_none_stored, is_stored, first_number, least_stored, moved_to, with_frame, with_room_for, number_arrived, arrived, requested, timed_out, waits_since_of};
 ghost use Rattle.wf_uplink.specs.Shown.{item_of};
 ghost use Rattle.wf_uplink.specs.Standing.{frames_from};
 
@@ -254,6 +254,22 @@ impl Sequencer {
             return true;
         }
         self.take(self.start + ahead, id, now, items)
+    }
+
+    /// Takes a BlockAckReq whose start has these twelve bits: moves B to it, and on to the first number from
+    /// there that is not stored, if the start is past B.
+    pub(crate) fn ask(&mut self, bits: Seq12, now: u64, items: &mut Items)
+        requires low { self.old.start < 2 ^ 63 + 4096 }
+        requires empty { items.old ≡ [] }
+        ensures after { self.new ≡ (requested bits now self.old).after }
+        ensures items { items.new ≡ map item_of (requested bits now self.old).passed }
+    {
+        let before = self.start;
+        let ahead = u64::from(bits.ahead(self.buffer.start()));
+        if ahead >= 1 && ahead <= FARTHEST {
+            self.move_to(before + ahead, items);
+            self.renew(before, false, now);
+        }
     }
 
     /// Gives up the hole at B: moves B to the least number stored, and on to the first hole from there.

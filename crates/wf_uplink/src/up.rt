@@ -5,17 +5,20 @@ ghost use Rattle.wf_uplink.specs.Shown.{nothing_up};
 
 use crate::Items;
 
-/// The result of a frame or a timeout. It has about 8 kB, so a caller makes one and lends it to each call.
+/// The result of a frame, a BlockAckReq or a timeout. It has about 8 kB, so a caller makes one and lends it
+/// to each call.
 #[derive(Drop)]
 pub struct Up {
     /// The station that sent the frames.
     pub station: u16,
     /// The TID, 0 to 7.
     pub tid: u8,
-    /// The charge for the frame, in microseconds; 0 for a timeout.
+    /// The charge for the frame or the request, in microseconds; 0 for a timeout.
     pub air: u32,
     /// The frame is old: its number was passed before, or is stored already.
     pub old: bool,
+    /// An Ack answers the frame, since its TID has no agreement.
+    pub ack: bool,
     /// The released frames and the gaps, in the order of their numbers.
     pub items: Items,
 }
@@ -30,6 +33,7 @@ impl Up {
             tid: 0,
             air: 0,
             old: false,
+            ack: false,
             items: Items::new(),
         }
     }

@@ -1,13 +1,13 @@
-//! Writes the answers that are one short line: those to `open`, `rate` and `tick`, a refused frame, and the
-//! totals after the line `end`.
+//! Writes the answers that are one short line: those to `open`, `plain`, `rate` and `tick`, a refused frame
+//! or BlockAckReq, and the totals after the line `end`.
 
 ghost use Rattle.std.specs.Prelude.{◌≡◌, ◌≤◌, [], length, is_ok, if◌then◌else◌};
 ghost use Rattle.std.specs.Result.{result_err};
-ghost use Rattle.wf_uplink.specs.World.{open_answer, Set, NotSet, Now, NotReceived};
-ghost use Rattle.wf_run_scripts.specs.UplinkAnswers.{open_word, fault_word, refused_line, answer_text, totals_line};
+ghost use Rattle.wf_uplink.specs.World.{open_answer, Set, NotSet, Now, NotReceived, NotRequested};
+ghost use Rattle.wf_run_scripts.specs.UplinkAnswers.{open_word, fault_word, request_word, refused_line, answer_text, totals_line};
 
 use wf_io::{Line, Word};
-use wf_uplink::{Closed, OpenFault, Totals, UplinkFault};
+use wf_uplink::{Closed, OpenFault, RequestFault, Totals, UplinkFault};
 
 // Returns the word for why a station is not opened.
 fn open_word(fault: OpenFault) -> &'static [u8]
@@ -36,6 +36,21 @@ fn fault_word(fault: UplinkFault) -> &'static [u8]
     }
 }
 
+// Returns the word for why octets are not a BlockAckReq of an open station.
+fn request_word(fault: RequestFault) -> &'static [u8]
+    ensures word { result.now ≡ request_word fault }
+    ensures short { length result.now ≤ 11 }
+{
+    match fault {
+        RequestFault::Header(_) => b"header",
+        RequestFault::Kind(_) => b"kind",
+        RequestFault::Form(_) => b"form",
+        RequestFault::NotMine => b"not-mine",
+        RequestFault::Tid(_) => b"tid",
+        RequestFault::NotAgreed => b"not-agreed",
+    }
+}
+
 // Writes a refusal to an empty line.
 fn print_refused(word: &'static [u8], out: &mut Line)
     requires empty { out.old ≡ [] }
@@ -45,7 +60,7 @@ fn print_refused(word: &'static [u8], out: &mut Line)
     out.push_line(b"refused", &[Word::Text(word)]);
 }
 
-/// Writes the answer to an `open` to an empty line.
+/// Writes the answer to an `open` or a `plain` to an empty line.
 pub fn print_opened(opened: Result<(), OpenFault>, out: &mut Line)
     requires { out.old ≡ [] }
     ensures { out.new ≡ answer_text (open_answer (result_err opened)) }
@@ -81,6 +96,14 @@ pub fn print_fault(fault: UplinkFault, out: &mut Line)
     ensures { out.new ≡ answer_text (NotReceived fault) }
 {
     print_refused(fault_word(fault), out);
+}
+
+/// Writes why a BlockAckReq is refused to an empty line.
+pub fn print_request_fault(fault: RequestFault, out: &mut Line)
+    requires { out.old ≡ [] }
+    ensures { out.new ≡ answer_text (NotRequested fault) }
+{
+    print_refused(request_word(fault), out);
 }
 
 /// Writes the text after the line `end` to an empty line: the number of frames, and how many had each

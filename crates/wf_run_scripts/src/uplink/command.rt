@@ -39,9 +39,11 @@ impl Answers for Reception {
                 window,
                 start,
             } => self.open(station, window, start, sink),
+            Event::Plain { station } => self.open_plain(station, sink),
             Event::Rate { station, rate } => self.set_rate(station, rate, sink),
             Event::Tick { by } => self.tick(by, sink),
             Event::Frame(frame) => self.receive(frame.octets(), sink),
+            Event::Bar(frame) => self.request(frame.octets(), sink),
         }
     }
 

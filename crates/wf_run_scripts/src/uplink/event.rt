@@ -15,6 +15,11 @@ pub enum Event {
         /// The first sequence number of each of its TIDs.
         start: u16,
     },
+    /// A station is opened whose TIDs have no agreement.
+    Plain {
+        /// The station's number.
+        station: u16,
+    },
     /// The rate of a station is set.
     Rate {
         /// The station's number.
@@ -29,4 +34,6 @@ pub enum Event {
     },
     /// A frame is received.
     Frame(Frame),
+    /// A BlockAckReq is received.
+    Bar(Frame),
 }

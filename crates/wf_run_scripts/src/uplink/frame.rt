@@ -1,4 +1,4 @@
-//! The octets of a line `frame`.
+//! The octets of a line `frame` or `bar`.
 
 ghost use Rattle.std.specs.Prelude.{◌≡◌};
 ghost use Rattle.std.specs.List.{list_all};
@@ -10,7 +10,7 @@ use std::marker::Model;
 /// The most octets in a line.
 const MOST: usize = 50;
 
-/// The octets of a received frame, at most 50.
+/// The octets of a received frame or BlockAckReq, at most 50.
 #[derive(Clone, Copy)]
 pub struct Frame {
     octets: [u8; MOST],

@@ -3,7 +3,7 @@
 ghost use Rattle.std.specs.Prelude.{◌≡◌, IfOk, slice_get, option_copied};
 ghost use Rattle.wf_trace.specs.Notes.{guard_at};
 ghost use Rattle.wf_trace.specs.Words.{words};
-ghost use Rattle.wf_run_scripts.specs.UplinkLines.{IsValid, AreOpening, AreRate, opening_of, rate_of, has_no_width, open_meant, rate_meant, tick_meant, frame_meant, meant};
+ghost use Rattle.wf_run_scripts.specs.UplinkLines.{IsValid, AreOpening, ArePlain, AreRate, opening_of, plain_of, rate_of, has_no_width, open_meant, plain_meant, rate_meant, tick_meant, octets_meant, frame_meant, bar_meant, meant};
 
 use crate::uplink::event::Event;
 use crate::uplink::frame::Frame;
@@ -47,6 +47,26 @@ fn open_from(line: &[u8]) -> Result<Event, FaultKind>
 {
     match read_all(&[SHORT, SHORT, SHORT], line) {
         Ok(values) => Ok(opening(values.as_slice())),
+        Err(kind) => Err(kind),
+    }
+}
+
+// Returns the event that opens a station without agreements, from these arguments.
+fn plain(values: &[Value]) -> Event
+    requires { ArePlain values.now }
+    ensures { result ≡ plain_of values.now }
+{
+    Event::Plain {
+        station: long_at(values, 0) as u16,
+    }
+}
+
+fn plain_from(line: &[u8]) -> Result<Event, FaultKind>
+    ensures says { result ≡ plain_meant (words line.now) }
+    ensures valid { IfOk result IsValid }
+{
+    match read_all(&[SHORT], line) {
+        Ok(values) => Ok(plain(values.as_slice())),
         Err(kind) => Err(kind),
     }
 }
@@ -120,9 +140,9 @@ fn tick_from(line: &[u8]) -> Result<Event, FaultKind>
     }
 }
 
-fn frame_from(line: &[u8]) -> Result<Event, FaultKind>
-    ensures says { result ≡ frame_meant (words line.now) }
-    ensures valid { IfOk result IsValid }
+// Returns the octets of a line `frame` or `bar`.
+fn octets_from(line: &[u8]) -> Result<Frame, FaultKind>
+    ensures { result ≡ octets_meant (words line.now) }
 {
     let Some((word, rest)) = next_word(line) else {
         return Err(FaultKind::Count);
@@ -131,14 +151,34 @@ fn frame_from(line: &[u8]) -> Result<Event, FaultKind>
         return Err(FaultKind::Count);
     }
     match Frame::read(word) {
-        Some(frame) => Ok(Event::Frame(frame)),
+        Some(frame) => Ok(frame),
         None => Err(FaultKind::Number),
+    }
+}
+
+fn frame_from(line: &[u8]) -> Result<Event, FaultKind>
+    ensures says { result ≡ frame_meant (words line.now) }
+    ensures valid { IfOk result IsValid }
+{
+    match octets_from(line) {
+        Ok(frame) => Ok(Event::Frame(frame)),
+        Err(kind) => Err(kind),
+    }
+}
+
+fn bar_from(line: &[u8]) -> Result<Event, FaultKind>
+    ensures says { result ≡ bar_meant (words line.now) }
+    ensures valid { IfOk result IsValid }
+{
+    match octets_from(line) {
+        Ok(frame) => Ok(Event::Bar(frame)),
+        Err(kind) => Err(kind),
     }
 }
 
 /// Returns the event of a line, or the first fault of the line: `word` if the first word is not an event, or
 /// a word argument of a rate is not allowed; `count` if the number of words is wrong; `number` if a number or
-/// the octets of a frame are malformed; `range` if a number is out of its range.
+/// the octets are malformed; `range` if a number is out of its range.
 pub fn event_from(line: &[u8]) -> Result<Event, FaultKind>
     ensures says { result ≡ meant (words line.now) }
     ensures valid { IfOk result IsValid }
@@ -148,9 +188,11 @@ pub fn event_from(line: &[u8]) -> Result<Event, FaultKind>
     };
     match Verb::named(word) {
         Some(Verb::Open) => open_from(rest),
+        Some(Verb::Plain) => plain_from(rest),
         Some(Verb::Rate) => rate_from(rest),
         Some(Verb::Tick) => tick_from(rest),
         Some(Verb::Frame) => frame_from(rest),
+        Some(Verb::Bar) => bar_from(rest),
         None => Err(FaultKind::Word),
     }
 }

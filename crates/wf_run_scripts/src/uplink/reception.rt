@@ -6,12 +6,14 @@ ghost use Rattle.wf_io.specs.Faults.{HasRisen, CountsFaults};
 ghost use Rattle.wf_io.specs.Fronts.{HoldsFront};
 ghost use Rattle.wf_def_lists.specs.Bounds.{greatest_tick};
 ghost use Rattle.wf_uplink.specs.Shown.{totals_of};
-ghost use Rattle.wf_uplink.specs.World.{Open, SetRate, Receive, Tick, Expire, tids_of_station, after_call, after_calls};
+ghost use Rattle.wf_uplink.specs.World.{Open, OpenPlain, SetRate, Receive, Request, Tick, Expire, tids_of_station, after_call, after_calls};
 ghost use Rattle.wf_run_scripts.specs.UplinkAnswers.{stations, first, calls_text, totals_line};
 ghost use Rattle.wf_run_scripts.specs.UplinkRoom.{can_count, lacks_room};
 
-use crate::uplink::answers::{print_fault, print_now, print_opened, print_set, print_totals};
-use crate::uplink::told::write_up;
+use crate::uplink::answers::{
+    print_fault, print_now, print_opened, print_request_fault, print_set, print_totals,
+};
+use crate::uplink::told::{write_request, write_up};
 use std::alloc::{AllocError, Global};
 use std::marker::Model;
 use wf_air::time::Rate;
@@ -110,6 +112,26 @@ impl Reception {
         write_line(sink, &line)
     }
 
+    /// Opens a station without agreements, and writes whether it was opened.
+    #[tactic(auto, using(crate::proofs::UplinkCalls::text_single, crate::proofs::UplinkCalls::after_single))]
+    pub fn open_plain<K: Sink>(&mut self, station: u16, sink: &mut K) -> Result<(), Unanswered>
+        ensures written { OnOk result
+            (K.held sink.new ≡ append_known (K.held sink.old)
+            (calls_text self.old (OpenPlain station ∷ []))) }
+        ensures after { OnOk result (self.new ≡ after_calls self.old (OpenPlain station ∷ [])) }
+        ensures front { OnErr result
+            (HoldsFront (K.held sink.old) (K.held sink.new)
+            (calls_text self.old (OpenPlain station ∷ []))) }
+        ensures memory { result ≢ Err Unanswered.Memory }
+        ensures counted { K.faults sink.old ≤ K.faults sink.new }
+        ensures cause { result ≡ Err Unanswered.Sink → HasRisen (K.faults sink.old) (K.faults sink.new) }
+        ensures quiet { result ≢ Err Unanswered.Sink → K.faults sink.new ≡ K.faults sink.old }
+    {
+        let mut line = Line::new();
+        print_opened(self.uplink.open_plain(station), &mut line);
+        write_line(sink, &line)
+    }
+
     /// Sets the rate of a station, and writes whether it was set.
     #[tactic(auto, using(crate::proofs::UplinkCalls::text_single, crate::proofs::UplinkCalls::after_single))]
     pub fn set_rate<K: Sink>(
@@ -159,6 +181,35 @@ impl Reception {
             Err(fault) => {
                 let mut line = Line::new();
                 print_fault(fault, &mut line);
+                write_line(sink, &line)
+            }
+        }
+    }
+
+    /// Receives the octets of a BlockAckReq, and writes the frames that are passed up and the BlockAck, or
+    /// why it is refused. Fails if a total has reached 2^62 or the sink fails.
+    #[tactic(auto, using(crate::proofs::UplinkCalls::after_single))]
+    pub fn request<K: Sink>(&mut self, octets: &[u8], sink: &mut K) -> Result<(), Unanswered>
+        ensures written { OnOk result
+            (K.held sink.new ≡ append_known (K.held sink.old)
+            (calls_text self.old (Request octets.now ∷ []))) }
+        ensures after { OnOk result (self.new ≡ after_calls self.old (Request octets.now ∷ [])) }
+        ensures front { OnErr result
+            (HoldsFront (K.held sink.old) (K.held sink.new) (calls_text self.old (Request octets.now ∷ []))) }
+        ensures memory { result ≡ Err Unanswered.Memory →
+            lacks_room self.old (Request octets.now ∷ []) ≡ true }
+        ensures counted { K.faults sink.old ≤ K.faults sink.new }
+        ensures cause { result ≡ Err Unanswered.Sink → HasRisen (K.faults sink.old) (K.faults sink.new) }
+        ensures quiet { result ≢ Err Unanswered.Sink → K.faults sink.new ≡ K.faults sink.old }
+    {
+        if !self.has_room() {
+            return Err(Unanswered::Memory);
+        }
+        match self.uplink.request(octets, &mut self.up) {
+            Ok(bitmap) => write_request(&self.up, bitmap, sink),
+            Err(fault) => {
+                let mut line = Line::new();
+                print_request_fault(fault, &mut line);
                 write_line(sink, &line)
             }
         }

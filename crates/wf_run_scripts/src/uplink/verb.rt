@@ -7,12 +7,21 @@ ghost use Rattle.wf_run_scripts.specs.UplinkLines.{uplink_word, verb_named};
 #[derive(Clone, Copy)]
 pub enum Verb {
     Open,
+    Plain,
     Rate,
     Tick,
     Frame,
+    Bar,
 }
 
-const VERBS: [Verb; 4] = [Verb::Open, Verb::Rate, Verb::Tick, Verb::Frame];
+const VERBS: [Verb; 6] = [
+    Verb::Open,
+    Verb::Plain,
+    Verb::Rate,
+    Verb::Tick,
+    Verb::Frame,
+    Verb::Bar,
+];
 
 impl Verb {
     /// Returns the word of the event.
@@ -21,9 +30,11 @@ impl Verb {
     {
         match self {
             Verb::Open => b"open",
+            Verb::Plain => b"plain",
             Verb::Rate => b"rate",
             Verb::Tick => b"tick",
             Verb::Frame => b"frame",
+            Verb::Bar => b"bar",
         }
     }
 

@@ -15,6 +15,7 @@ counted c =
     let u = c.self.inside in
     let new = c.arrive_at-old.new.sequencers in
     world_of u.clock u.rates.items (take u.sequencers.len (new ++ drop (length new) u.sequencers.items))
+    u.sides.items
     (u.frames + 1) (u.up + c.counts-released.result.0) (u.back + c.from.result)
     (u.missing + c.counts-released.result.1)
 
@@ -28,7 +29,8 @@ record HasArrived (c : After-self-5-1) : Type 0 where
 has_arrived : (c : After-self-5-1) → HasArrived c
 has_arrived c =
     let u = c.self.inside in
-    let w : World = world_of u.clock u.rates.items u.sequencers.items u.frames u.up u.back u.missing in
+    let w : World =
+    world_of u.clock u.rates.items u.sequencers.items u.sides.items u.frames u.up u.back u.missing in
     let h = c.args.heard.now in
     let place : ℕ = place_of h.station h.tid in
     let live : is_open w h.station ≡ true =
@@ -55,7 +57,7 @@ has_arrived c =
     (c.from.ensures ∙ byte_is c.arrive_at-old.result.0)
     (c.set.ensures ∙ ap₂ (λ n (since : Option ℕ). set u.waits n (worth_of since)) c.place_of-place.ensures
     (told.since ∙ ap (λ (r : Reordering). waits_since_of (arrived h.seq u.frames u.clock r).after) q)) in
-    let whole = ap (λ (rs : List Reordering). world_of u.clock u.rates.items rs (u.frames + 1)
+    let whole = ap (λ (rs : List Reordering). world_of u.clock u.rates.items rs u.sides.items (u.frames + 1)
     (u.up + c.counts-released.result.0) (u.back + c.from.result) (u.missing + c.counts-released.result.1))
     list_is in
     record {

@@ -32,7 +32,8 @@ returns-in-None-clause-up c =
 pub invariant_of-self : goal.invariant_of-self
 invariant_of-self c =
     let u = c.self.inside in
-    let w : World = world_of u.clock u.rates.items u.sequencers.items u.frames u.up u.back u.missing in
+    let w : World =
+    world_of u.clock u.rates.items u.sequencers.items u.sides.items u.frames u.up u.back u.missing in
     let place = c.in-Some.place in
     let due : first_due w ≡ Some place = found_due w u.waits place c.self.invariant.1 c.in-Some.ensures.some
     in
@@ -54,9 +55,9 @@ invariant_of-self c =
     (told.since ∙ ap (λ (r : Reordering). waits_since_of (timed_out u.clock r).after) q)) in
     let same_frames : u.frames ≡ u.frames + 0 = omega arith in
     let same_back : u.back ≡ u.back + 0 = omega arith in
-    let whole = ap (λ (rs : List Reordering). world_of u.clock u.rates.items rs u.frames
+    let whole = ap (λ (rs : List Reordering). world_of u.clock u.rates.items rs u.sides.items u.frames
     (u.up + c.counts-released.result.0) u.back (u.missing + c.counts-released.result.1)) list_is
-    ∙ ap₂ (λ n m. world_of u.clock u.rates.items (set u.sequencers.items place o.after) n
+    ∙ ap₂ (λ n m. world_of u.clock u.rates.items (set u.sequencers.items place o.after) u.sides.items n
     (u.up + c.counts-released.result.0) m (u.missing + c.counts-released.result.1)) same_frames same_back
     in (
       subst IsSound (sym whole) k.sound,
@@ -67,7 +68,8 @@ invariant_of-self c =
 pub returns-clause-due : goal.returns-clause-due
 returns-clause-due c =
     let u = c.self.inside in
-    let w : World = world_of u.clock u.rates.items u.sequencers.items u.frames u.up u.back u.missing in
+    let w : World =
+    world_of u.clock u.rates.items u.sequencers.items u.sides.items u.frames u.up u.back u.missing in
     let place = c.in-Some.place in
     let due : first_due w ≡ Some place = found_due w u.waits place c.self.invariant.1 c.in-Some.ensures.some
     in
@@ -76,7 +78,8 @@ returns-clause-due c =
 pub returns-clause-after : goal.returns-clause-after
 returns-clause-after c =
     let u = c.self.inside in
-    let w : World = world_of u.clock u.rates.items u.sequencers.items u.frames u.up u.back u.missing in
+    let w : World =
+    world_of u.clock u.rates.items u.sequencers.items u.sides.items u.frames u.up u.back u.missing in
     let place = c.in-Some.place in
     let due : first_due w ≡ Some place = found_due w u.waits place c.self.invariant.1 c.in-Some.ensures.some
     in
@@ -98,9 +101,9 @@ returns-clause-after c =
     (told.since ∙ ap (λ (r : Reordering). waits_since_of (timed_out u.clock r).after) q)) in
     let same_frames : u.frames ≡ u.frames + 0 = omega arith in
     let same_back : u.back ≡ u.back + 0 = omega arith in
-    let whole = ap (λ (rs : List Reordering). world_of u.clock u.rates.items rs u.frames
+    let whole = ap (λ (rs : List Reordering). world_of u.clock u.rates.items rs u.sides.items u.frames
     (u.up + c.counts-released.result.0) u.back (u.missing + c.counts-released.result.1)) list_is
-    ∙ ap₂ (λ n m. world_of u.clock u.rates.items (set u.sequencers.items place o.after) n
+    ∙ ap₂ (λ n m. world_of u.clock u.rates.items (set u.sequencers.items place o.after) u.sides.items n
     (u.up + c.counts-released.result.0) m (u.missing + c.counts-released.result.1)) same_frames same_back
     in
     whole ∙ k.world ∙ no_more_frames w place ∙ due_after w place due ∙ ap (after_call Expire) c.self.view_is
@@ -108,20 +111,23 @@ returns-clause-after c =
 pub returns-clause-unchanged : goal.returns-clause-unchanged
 returns-clause-unchanged c =
     let u = c.self.inside in
-    let w : World = world_of u.clock u.rates.items u.sequencers.items u.frames u.up u.back u.missing in
+    let w : World =
+    world_of u.clock u.rates.items u.sequencers.items u.sides.items u.frames u.up u.back u.missing in
     let place = c.in-Some.place in
     let due : first_due w ≡ Some place = found_due w u.waits place c.self.invariant.1 c.in-Some.ensures.some
     in
     λ none. absurd (let same = ap first_due c.self.view_is in grind (arith, due, same, none))
 
 shown : ℕ → ℕ → List UpItem → Up
-shown station tid items = record { station = station; tid = tid; air = 0; old = false; items = items }
+shown station tid items =
+    record { station = station; tid = tid; air = 0; old = false; ack = false; items = items }
 
 pub returns-clause-up : goal.returns-clause-up
 unfolding shown
 returns-clause-up c =
     let u = c.self.inside in
-    let w : World = world_of u.clock u.rates.items u.sequencers.items u.frames u.up u.back u.missing in
+    let w : World =
+    world_of u.clock u.rates.items u.sequencers.items u.sides.items u.frames u.up u.back u.missing in
     let place = c.in-Some.place in
     let due : first_due w ≡ Some place = found_due w u.waits place c.self.invariant.1 c.in-Some.ensures.some
     in

@@ -1,11 +1,13 @@
 -- The call leads to the world of the definition, which satisfies the invariant.
-use Rattle.std.proofs.Common.{◌≡◌, ◌<◌, List, length, Option, None, Some, get_or, set, ◌∙◌, ap, ap₂, sym, subst, arith}
+use Rattle.std.proofs.Common.{◌≡◌, ◌<◌, List, ◌++◌, length, take, drop, Option, None, Some, get_or, set, ◌∙◌, ap, ap₂, sym, subst, arith}
 use Rattle.std.proofs.lemmas.List.{get_or_default}
-use Rattle.wf_def_air.specs.Airtime.{Rate}
+use Rattle.wf_def_air.specs.Airtime.{Rate, lowest_rate}
+use Rattle.wf_recv_peer.specs.Board.{empty_board}
 use Rattle.wf_uplink.specs.Reordering.{Reordering}
+use Rattle.wf_uplink.specs.Sides.{SideValue, Agreed}
 use Rattle.wf_uplink.specs.Soundness.{IsSound, IsWatched, world_of}
-use Rattle.wf_uplink.specs.World.{World, begun, rate_of}
-use Rattle.wf_uplink.proofs.Worlds.{IsOpening, opened_sound, begun_length, none_of}
+use Rattle.wf_uplink.specs.World.{World, begun, sided, rate_of}
+use Rattle.wf_uplink.proofs.Worlds.{IsOpening, opened_sound, begun_length, sided_length, none_of}
 use Rattle.wf_uplink.proofs.Watching.{opened_watched}
 use Rattle.wf_uplink.proofs.Heard.{back_whole}
 use Rattle.wf_uplink.proofs.uplink.Uplink.open.Goals as goal
@@ -13,7 +15,8 @@ use Rattle.wf_uplink.proofs.uplink.Uplink.open.Goals as goal
 pub invariant_of-self : goal.invariant_of-self
 invariant_of-self c =
     let u = c.self.inside in
-    let w : World = world_of u.clock u.rates.items u.sequencers.items u.frames u.up u.back u.missing in
+    let w : World =
+    world_of u.clock u.rates.items u.sequencers.items u.sides.items u.frames u.up u.back u.missing in
     let new_is : c.begin.new.sequencers ≡ begun 8 c.args.station c.args.window c.args.start
     u.sequencers.items =
     c.begin.ensures ∙ ap (begun 8 c.args.station c.args.window c.args.start) c.deref_mut.ensures.value in
@@ -21,9 +24,18 @@ invariant_of-self c =
     in
     let list_is = back_whole u.sequencers.len c.begin.new.sequencers u.sequencers.items size u.sequencers.ok.0
     ∙ new_is in
+    let first : SideValue = Agreed (empty_board c.args.start c.args.window) in
+    let new_sides : c.agree.new.sides ≡ sided 8 c.args.station first u.sides.items =
+    c.agree.ensures ∙ ap (sided 8 c.args.station first) c.deref_mut-2.ensures.value in
+    let sides_are = back_whole u.sides.len c.agree.new.sides u.sides.items
+    (ap length new_sides ∙ sided_length 8 c.args.station first u.sides.items) u.sides.ok.0 ∙ new_sides in
     let is = ap₂ (λ (rates : List (Option Rate)) (rs : List Reordering).
-    world_of u.clock rates rs u.frames u.up u.back u.missing)
+    world_of u.clock rates rs (take u.sides.len (c.agree.new.sides
+    ++ drop (length c.agree.new.sides) u.sides.items)) u.frames u.up u.back u.missing)
     (ap₂ (λ n (rate : Rate). set u.rates.items n (Some rate)) c.from-number.ensures c.lowest.ensures) list_is
+    ∙ ap (λ (ss : List SideValue). world_of u.clock (set u.rates.items c.args.station (Some lowest_rate))
+    (begun 8 c.args.station c.args.window c.args.start u.sequencers.items) ss u.frames u.up u.back u.missing)
+    sides_are
     in
     let inside : c.from-number.result < length u.rates.items =
     grind (arith, c.if-number-len.false, c.len.ensures, u.rates.ok.0) in
