@@ -93,6 +93,8 @@ class_read Vo = refl
 format_read : (f : RateFormat) → read_arg arg.Format (format_word f) ≡ Ok (Format f)
 format_read format.Vht = refl
 format_read format.He = refl
+format_read format.Ofdm = refl
+format_read format.Dsss = refl
 
 guard_read : (short : Bool) → read_arg arg.Guard (guard_word short) ≡ Ok (Guard short)
 guard_read true = refl
@@ -108,7 +110,9 @@ digits_format [] all = refl
 digits_format (octet ∷ digits) all =
     let vht : nat_eq 118 octet ≡ false = grind (arith, nat_tests) in
     let he : nat_eq 104 octet ≡ false = grind (arith, nat_tests) in
-    rw (vht, he) refl
+    let ofdm : nat_eq 111 octet ≡ false = grind (arith, nat_tests) in
+    let dsss : nat_eq 100 octet ≡ false = grind (arith, nat_tests) in
+    rw (vht, he, ofdm, dsss) refl
 
 number_format : (n : ℕ) → n < 2 ^ 8 → format_named (decimal n) ≡ None
 number_format n small = digits_format (decimal n) (digits_decimal own n (omega arith))
@@ -228,6 +232,8 @@ class_told Vo = record { read = refl; plain = (refl, refl); short = omega arith 
 format_told : (f : RateFormat) → IsTold arg.Format (Format f)
 format_told format.Vht = record { read = refl; plain = (refl, refl); short = omega arith }
 format_told format.He = record { read = refl; plain = (refl, refl); short = omega arith }
+format_told format.Ofdm = record { read = refl; plain = (refl, refl); short = omega arith }
+format_told format.Dsss = record { read = refl; plain = (refl, refl); short = omega arith }
 
 guard_told : (b : Bool) → IsTold arg.Guard (Guard b)
 guard_told true = record { read = refl; plain = (refl, refl); short = omega arith }

@@ -4,9 +4,9 @@ use Rattle.std.specs.Str.{bytes_eq}
 use Rattle.wf_trace.specs.declared.fault.FaultKind.{FaultKind}
 use Rattle.wf_trace.specs.declared.fault.FaultKind.TheVariants as kind
 use Rattle.wf_frame.specs.declared.calls.CallForm.{CallForm}
-use Rattle.wf_frame.specs.declared.calls.CallForm.TheVariants.{Rate, RateVht, RateHe, Pull, PullFrames, PullAir, PullLimited, Done, DoneAir}
+use Rattle.wf_frame.specs.declared.calls.CallForm.TheVariants.{Rate, RateVht, RateHe, RateOfdm, RateDsss, Pull, PullFrames, PullAir, PullLimited, Done, DoneAir}
 use Rattle.wf_frame.specs.declared.calls.RateFormat.{RateFormat}
-use Rattle.wf_frame.specs.declared.calls.RateFormat.TheVariants.{Vht, He}
+use Rattle.wf_frame.specs.declared.calls.RateFormat.TheVariants.{Vht, He, Ofdm, Dsss}
 use Rattle.wf_frame.specs.declared.calls.Arg.{Arg}
 use Rattle.wf_frame.specs.declared.calls.Arg.TheVariants.{Short, Octet, Long, Exchange, Length, Weight, Class, Format, Guard, Heard, Air, Frames, Number, End}
 use Rattle.wf_frame.specs.declared.calls.Value.{Value}
@@ -22,6 +22,8 @@ abbrev pub rate_form : Option RateFormat → CallForm
 rate_form None = Rate
 rate_form (Some Vht) = RateVht
 rate_form (Some He) = RateHe
+rate_form (Some Ofdm) = RateOfdm
+rate_form (Some Dsss) = RateDsss
 
 -- the word before the airtime of a `done`, or the one that a `pull` allows
 abbrev pub air_word : List ℕ

@@ -43,6 +43,8 @@ fn rate_form(line: &[u8]) -> CallForm
         None => CallForm::Rate,
         Some(RateFormat::Vht) => CallForm::RateVht,
         Some(RateFormat::He) => CallForm::RateHe,
+        Some(RateFormat::Ofdm) => CallForm::RateOfdm,
+        Some(RateFormat::Dsss) => CallForm::RateDsss,
     }
 }
 

@@ -55,6 +55,8 @@ A trace is a head, then calls, then the line end:
   rate S MCS MHZ GUARD            HT: MCS, 0..255; MHz, 0..255; long or short
   rate S vht MCS MHZ GUARD N      VHT: and streams, 0..255
   rate S he MCS MHZ GUARD N       HE: the guard interval in nanoseconds, 0..65535
+  rate S ofdm MBIT                OFDM: Mbit/s, 0..255
+  rate S dsss HALF_MBIT           DSSS: half Mbit/s, 0..255
   tick MICROSECONDS               0..4294967295
   enq S TID FLOW LENGTH           TID, 0..255; flow, 0..4294967295; octets, 1..2304
   pull CLASS                      bk, be, vi or vo
@@ -89,7 +91,7 @@ Settings: stations=1..256 flows=1..4096 limit=1..65535 room=1..131072 flow_quant
 quantum=100..10000 inflight=1..8 attempts=1..64 agg=1..256 cap=3000..5400 sleeping=1..65535
 calls=1..4294967295 charge=0..65535 debt=0..1000000 aql_total=0..262144 keep_order=0..1
 codel_reset=0..1 aql=0..262144 pending=0..1 overhead=0..32 cap_vi=0..5400 cap_vo=0..5400
-answers=0..1 credits=0..1
+answers=0..1 credits=0..1 legacy=0..2
 
 Words are separated by spaces. A line that begins with #, after any spaces, is a comment and
 is skipped. A call line may begin with its caller, @0 to @65535. A number has 1 to 10 decimal
@@ -162,9 +164,11 @@ Reads a script of what stations send from standard input. After each event it wr
 frames are passed up, in order, before it reads on, and after the line end how many.
 
   open S W START          station, 0..255; window, 1..256; first number, 0..4095
+  plain S                 station, 0..255, whose TIDs have no agreement
   rate S MCS MHZ GUARD    MCS, 0..15; 20 or 40; long or short
   tick MICROSECONDS       0..10000000
   frame HEX               received octets: 2 to 100 digits 0-9 and a-f, an even number of them
+  bar HEX                 the octets of a received BlockAckReq, likewise
   end
 
 Lines, words and comments are as in a trace (wf help replay).
