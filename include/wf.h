@@ -99,7 +99,7 @@ extern "C" {
 /* The values that functions of type int32_t return, except wf_path_live, wf_path_can_pull, wf_path_listed and
  * wf_path_has_small_counts. 0 means success. Any other code says why nothing has changed: neither what the
  * handle holds, nor the caller's structs and buffers. There are these exceptions:
- * - `reply` shows the refusal, if the code is 1 to 38, unless the comment of the function says that it is
+ * - `reply` shows the refusal, if the code is 1 to 39, unless the comment of the function says that it is
  *   unchanged;
  * - after a code of wf_path_burst or wf_cell_burst the first `made` calls are made;
  * - WF_FULL, WF_AHEAD and WF_IDLE set the count of `frames` of wf_path_pull and wf_path_pull_limited to 0;
@@ -118,8 +118,9 @@ enum wf_code {
   WF_BAD_START = 3,     /* the first sequence number is above 4095 */
   WF_BAD_EXPONENT = 4,  /* the A-MPDU length exponent is above 3 */
   WF_BAD_RATE = 5,      /* the rate does not exist: its format does not have this MCS, width,
-                         * guard interval or number of streams, or it is one of the ten
-                         * combinations that VHT leaves out (wf_path_rate_vht) */
+                         * guard interval, number of streams or speed, or it is one of the ten
+                         * combinations that VHT leaves out; or the setting `legacy` does not
+                         * allow it (wf_path_rate_vht, wf_path_rate_ofdm) */
   WF_BAD_TICK = 6,      /* the clock would move by more than 10,000,000 microseconds;
                          * wf_path_advance: back, or to 2^61 or more */
   WF_BAD_TID = 7,       /* the TID is above 7 */
@@ -156,11 +157,14 @@ enum wf_code {
   WF_MARKED = 32,       /* that transmission has a mark: it never went on the air, or the device
                          * will not try it again */
   WF_OFFLOADED = 33,    /* the device of the station makes its agreements */
-  WF_AGREED = 34,       /* the TID has an agreement */
+  WF_AGREED = 34,       /* `hold`: the TID has an agreement; `rate` to OFDM or DSSS: a TID of the
+                         * station has one or is held */
   WF_TID_HELD = 35,     /* the TID is held already */
   WF_NOT_HELD = 36,     /* the TID is not held */
   WF_NOT_AGREED = 37,   /* the TID has no agreement */
   WF_WAITS = 38,        /* `count` sequence numbers of the TID wait to be sent */
+  WF_LEGACY = 39,       /* the rate of the station is one of OFDM or DSSS, at which it has no
+                         * agreement */
   /* end refusals */
   /* other codes */
   WF_NO_MEMORY = 40,    /* out of memory */
@@ -259,8 +263,8 @@ enum wf_call_kind {
   /* begin calls: tools/tables writes these lines; the comments stay */
   WF_CALL_JOIN = 0,     /* station, window, start, exponent, weight */
   WF_CALL_LEAVE = 1,    /* station */
-  WF_CALL_RATE = 2,     /* station, form, mcs, mhz; HT: short_guard; VHT: short_guard and
-                         * streams; HE: guard and streams */
+  WF_CALL_RATE = 2,     /* station, form; OFDM and DSSS: speed; HT: mcs, mhz and short_guard;
+                         * VHT: these and streams; HE: mcs, mhz, guard and streams */
   WF_CALL_TICK = 3,     /* by */
   WF_CALL_ENQUEUE = 4,  /* station, tid, flow, length; made by wf_cell_enqueue, or in a burst */
   WF_CALL_PULL = 5,     /* class_; frames and air, each 0 if it limits nothing */
@@ -341,7 +345,9 @@ struct wf_settings {
                           * rate of the data; with 0 always at 24 [0..1] */
   uint32_t credits;      /* whether a credit blocks the next poll only while the station can send
                           * in the credit's class [0..1] */
-  uint32_t reserved[8];  /* for later settings: each has to be 0 */
+  uint32_t legacy;       /* which rates a station may have: HT, VHT and HE; with 1 also OFDM;
+                          * with 2 also OFDM and DSSS [0..2] */
+  uint32_t reserved[7];  /* for later settings: each has to be 0 */
   /* end settings */
 };
 
@@ -362,7 +368,7 @@ struct wf_reply {
   uint16_t waiting;     /* frames of the exchange that wait to be sent again */
   uint16_t failed;      /* frames of the exchange that are dropped */
   uint8_t kind;         /* enum wf_kind */
-  uint8_t refusal;      /* enum wf_code, 0 to 38: what the function returned */
+  uint8_t refusal;      /* enum wf_code, 0 to 39: what the function returned */
   uint8_t tid;          /* the TID to send for */
   uint8_t class_;       /* enum wf_class: the class of the credit */
   uint8_t fate;         /* enum wf_fate */
@@ -445,8 +451,18 @@ struct wf_share {
   uint64_t rx;       /* the airtime that it used to send (wf_path_rx) */
 };
 
+/* A queue: its octets, and the state of CoDel in it (RFC 8289). */
+struct wf_codel {
+  uint64_t octets;     /* the octets of the bodies in the queue */
+  uint64_t drop_next;  /* if `dropping` is 1: the time, on the clock of the path, from which on a pull drops
+                        * the next frame */
+  uint32_t drop_count; /* the number of drops by which the control law computes this time: 1 when dropping
+                        * begins, or more if it ended shortly before; each further drop adds 1 */
+  uint32_t dropping;   /* 1 if pulls drop frames at the times of the control law, else 0 */
+};
+
 /* The formats of rates. A call with any other `form` is WF_BAD_CALL. */
-enum wf_form { WF_FORM_HT = 0, WF_FORM_VHT = 1, WF_FORM_HE = 2 };
+enum wf_form { WF_FORM_HT = 0, WF_FORM_VHT = 1, WF_FORM_HE = 2, WF_FORM_OFDM = 3, WF_FORM_DSSS = 4 };
 
 /* The handle of a cell. */
 struct wf_cell {
@@ -479,6 +495,7 @@ struct wf_call {
   uint8_t short_guard; /* HT and VHT: other than 0 for the short guard interval; 1 in an entry that is read */
   uint8_t streams;     /* VHT and HE: the number of spatial streams */
   uint8_t heard;       /* other than 0 if the BlockAck was heard; 1 in an entry that is read */
+  uint8_t speed;       /* OFDM: in Mbit/s; DSSS: in half Mbit/s */
 };
 
 /* The frames that a station passed up: the first `count` ids, in order. The entries after them have no
@@ -523,7 +540,7 @@ void wf_kind_name(int32_t kind, char name[WF_NAME]);
  * word for any other number is "?". */
 void wf_fate_name(int32_t fate, char name[WF_NAME]);
 
-/* Writes the word for a setting, as in a trace, by its place in struct wf_settings, 1 to 24; the rest of
+/* Writes the word for a setting, as in a trace, by its place in struct wf_settings, 1 to 25; the rest of
  * `name`, at least one octet, is 0. The word for any other number is "?". */
 void wf_setting_name(int32_t place, char name[WF_NAME]);
 
@@ -616,8 +633,8 @@ int32_t wf_path_plain(struct wf_path *path, uint16_t station, uint16_t start, ui
  * station with an agreement discards a frame with a lower number. If the station accepts, call wf_path_begin;
  * if it declines, wf_path_free_tid. If no response comes, it may have accepted: send a DELBA, and call
  * wf_path_free_tid after its Ack. Returns WF_OK; WF_BAD_STATION; WF_BAD_TID; WF_NO_STATION; WF_OFFLOADED if
- * the station joined by wf_path_join_offload; WF_AGREED if the TID has an agreement; or WF_TID_HELD if it is
- * held already. */
+ * the station joined by wf_path_join_offload; WF_AGREED if the TID has an agreement; WF_TID_HELD if it is held
+ * already; or WF_LEGACY if the rate of the station is one of OFDM or DSSS, at which frames go one by one. */
 int32_t wf_path_hold(struct wf_path *path, uint16_t station, uint8_t tid, struct wf_reply *reply);
 
 /* Begins the agreement of a held TID (0 to 7), with a window of 1 to 256 frames. From now on its frames are
@@ -665,6 +682,17 @@ int32_t wf_path_rate_vht(struct wf_path *path, uint16_t station, uint8_t mcs, ui
  * WF_NO_STATION. */
 int32_t wf_path_rate_he(struct wf_path *path, uint16_t station, uint8_t mcs, uint8_t mhz, uint16_t guard, uint8_t streams,
                         struct wf_reply *reply);
+
+/* Sets the rate of data to a live station, a rate of OFDM (IEEE 802.11-2012, clause 18): `mbps` is 6, 9, 12, 18,
+ * 24, 36, 48 or 54 Mbit/s. Each exchange to the station then sends one frame, and the station answers with an
+ * Ack (wf_path_done_ack); a batch has one frame too. Returns WF_OK; WF_BAD_STATION; WF_BAD_RATE, also if the
+ * setting `legacy` is 0; WF_NO_STATION; or WF_AGREED if a TID of the station has an agreement or is held. */
+int32_t wf_path_rate_ofdm(struct wf_path *path, uint16_t station, uint8_t mbps, struct wf_reply *reply);
+
+/* Sets the rate of data to a live station, a rate of DSSS with its long preamble (IEEE 802.11-2012, clause 17):
+ * `half_mbps` is 2, 4, 11 or 22 half Mbit/s, which are 1, 2, 5.5 and 11 Mbit/s. The rest is as for
+ * wf_path_rate_ofdm, but the setting `legacy` has to be 2. */
+int32_t wf_path_rate_dsss(struct wf_path *path, uint16_t station, uint8_t half_mbps, struct wf_reply *reply);
 
 /* Moves the clock on by `by` microseconds, 0 to 10,000,000. `now` of the reply is the new clock. Returns
  * WF_OK, or WF_BAD_TICK if `by` is greater. */
@@ -892,6 +920,12 @@ void wf_path_tally(const struct wf_path *path, struct wf_tally *tally);
  * above 3; or else WF_NO_STATION. After an error `share` is unchanged. */
 int32_t wf_path_share(const struct wf_path *path, uint16_t station, uint8_t class_, struct wf_share *share);
 
+/* Writes a live station's airtime in flight in a class, in microseconds: the computed airtime of its open
+ * exchanges. The setting `aql` limits it, and with the setting `pending` it counts against the station when a
+ * pull picks one. Returns WF_OK; WF_BAD_CLASS if the class is above 3; or else WF_NO_STATION. After an error
+ * `air` is unchanged. */
+int32_t wf_path_pending(const struct wf_path *path, uint16_t station, uint8_t class_, uint32_t *air);
+
 /* Returns 1 if wf_path_pull of a class would open an exchange now, else 0, because it would return WF_FULL,
  * WF_AHEAD or WF_IDLE, or because the class is above 3. */
 int32_t wf_path_can_pull(const struct wf_path *path, uint8_t class_);
@@ -908,6 +942,17 @@ int32_t wf_path_has_small_counts(const struct wf_path *path);
  * TID is above 7; or else WF_NO_STATION exactly if the station is not live. After an error `count` is
  * unchanged. */
 int32_t wf_path_queued(const struct wf_path *path, uint16_t station, uint8_t tid, uint32_t *count);
+
+/* Writes the octets of the bodies of a live station's TID in flow queues. It looks at each queue. Returns
+ * WF_OK; WF_BAD_TID exactly if the TID is above 7; or else WF_NO_STATION exactly if the station is not live.
+ * After an error `octets` is unchanged. */
+int32_t wf_path_octets(const struct wf_path *path, uint16_t station, uint8_t tid, uint64_t *octets);
+
+/* Writes the octets of a queue, and the state of CoDel in it, which an empty queue keeps. The frames of a flow
+ * are in queue `flow` modulo `flows` or, if another TID uses this queue, in the overflow queue of their TID:
+ * queue `flows` + 8 * station + TID. Returns WF_OK; or WF_BAD_INDEX exactly if there is no such queue, and then
+ * `codel` is unchanged. */
+int32_t wf_path_codel(const struct wf_path *path, uint32_t queue, struct wf_codel *codel);
 
 /* Writes how many frames with sequence numbers of a live station's TID wait to be sent. Returns WF_OK;
  * WF_BAD_TID exactly if the TID is above 7; or else WF_NO_STATION exactly if the station is not live. After an

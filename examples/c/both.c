@@ -116,6 +116,13 @@ static uint8_t some_width(void) {
   return below(9) ? WIDTHS[below(4)] : 30;
 }
 
+/* Returns a speed of OFDM or DSSS, sometimes one that neither has. */
+static uint8_t some_speed(uint8_t form) {
+  static const uint8_t OFDM[] = {6, 9, 12, 18, 24, 36, 48, 54}, DSSS[] = {2, 4, 11, 22};
+  if (below(9) == 0) return (uint8_t)below(256);
+  return form == WF_FORM_OFDM ? OFDM[below(8)] : DSSS[below(4)];
+}
+
 /* Returns an airtime for the end of an exchange: none, one in range, or sometimes one that is too large. */
 static uint32_t some_airtime(void) {
   if (below(2)) return 0;
@@ -143,12 +150,13 @@ static void call_ask(uint32_t caller, uint16_t station) {
   call.start = (uint16_t)below(4100);
   call.exponent = (uint8_t)below(5);
   call.weight = (uint8_t)below(18);
-  call.form = (uint8_t)below(3);
+  call.form = (uint8_t)below(5);
   call.mcs = (uint8_t)below(17);
   call.mhz = some_width();
   call.short_guard = (uint8_t)below(2);
   call.guard = (uint16_t)(below(9) ? 800 << below(3) : 400);
   call.streams = (uint8_t)below(10);
+  call.speed = some_speed(call.form);
   code = wf_cell_ask(&cell, caller, &call, &reply);
   follow(call.exchange);
   write_answer(code);
@@ -203,11 +211,13 @@ static void call(void) {
 
 /* Writes the rate of a call. */
 static void write_rate(const struct wf_call *c) {
-  unsigned s = c->station, mcs = c->mcs, mhz = c->mhz, streams = c->streams;
+  unsigned s = c->station, mcs = c->mcs, mhz = c->mhz, streams = c->streams, speed = c->speed;
   switch (c->form) {
     case WF_FORM_HT: fprintf(trace, "rate %u %u %u %s\n", s, mcs, mhz, GUARDS[c->short_guard]); break;
     case WF_FORM_VHT: fprintf(trace, "rate %u vht %u %u %s %u\n", s, mcs, mhz, GUARDS[c->short_guard], streams); break;
     case WF_FORM_HE: fprintf(trace, "rate %u he %u %u %u %u\n", s, mcs, mhz, (unsigned)c->guard, streams); break;
+    case WF_FORM_OFDM: fprintf(trace, "rate %u ofdm %u\n", s, speed); break;
+    case WF_FORM_DSSS: fprintf(trace, "rate %u dsss %u\n", s, speed); break;
     default: fail("a rate of no format");
   }
 }
@@ -281,11 +291,12 @@ static void open_cell(uint32_t calls) {
   settings.attempts = 4;
   settings.sleeping = 8;
   settings.charge = CHARGE;
+  settings.legacy = 2;
   settings.calls = 0;
   if (wf_cell_make(&cell, &settings) != WF_BAD_SETTING + 12) fail("a history of no calls is taken");
   settings.calls = calls;
   if (wf_cell_make(&cell, &settings)) fail("there is no cell");
-  fprintf(trace, "cell stations=%d flows=32 limit=40 room=400 attempts=4 sleeping=8 charge=%d\n", STATIONS, CHARGE);
+  fprintf(trace, "cell stations=%d flows=32 limit=40 room=400 attempts=4 sleeping=8 charge=%d legacy=2\n", STATIONS, CHARGE);
 }
 
 /* Checks that with a full history each call is refused and is no entry. */
@@ -295,7 +306,7 @@ static void look_at_the_end(uint64_t calls) {
   none.kind = WF_CALL_REAP;
   if (wf_cell_ask(&cell, 0, &none, &reply) != WF_BAD_CALL) fail("a reap without a buffer is taken");
   none.kind = WF_CALL_RATE;
-  none.form = 3;
+  none.form = WF_FORM_DSSS + 1;
   if (wf_cell_ask(&cell, 0, &none, &reply) != WF_BAD_CALL) fail("a rate of no format is taken");
   none.kind = WF_CALL_TICK;
   if (wf_cell_ask(&cell, 0, &none, &reply) != WF_HISTORY_FULL) fail("a call past the end is taken");

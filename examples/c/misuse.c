@@ -37,6 +37,7 @@ static const uint32_t OUTSIDE[][2] = {
     {5401u, 5401u}, /* cap_vo */
     {2u, 2u}, /* answers */
     {2u, 2u}, /* credits */
+    {3u, 3u}, /* legacy */
     /* end outside */
 };
 
@@ -228,6 +229,32 @@ static void misuse_rates(void) {
   want(wf_path_rate_he(&path, 0, 12, 80, 800, 1, &reply), WF_BAD_RATE, "MCS 12 of HE");
   want(wf_path_rate_he(&path, 0, 11, 80, 400, 1, &reply), WF_BAD_RATE, "400 ns of HE");
   want(wf_path_rate_he(&path, 0, 11, 80, 800, 0, &reply), WF_BAD_RATE, "no stream of HE");
+  want(wf_path_rate_ofdm(&path, 0, 6, &reply), WF_BAD_RATE, "6 Mbit/s of OFDM with the setting `legacy` 0");
+  want(wf_path_rate_dsss(&path, 0, 2, &reply), WF_BAD_RATE, "1 Mbit/s of DSSS with the setting `legacy` 0");
+}
+
+/* Rates of OFDM and DSSS in a path that allows them, for a station with agreements and for one without. */
+static void misuse_legacy(void) {
+  struct wf_settings settings = some_settings();
+  settings.legacy = 2;
+  want(wf_path_make(&path, &settings), WF_OK, "a path in the same handle");
+  want(wf_path_join(&path, 1, 64, 0, 3, 1, &reply), WF_OK, "wf_path_join");
+  want(wf_path_plain(&path, 2, 0, 3, 1, &reply), WF_OK, "wf_path_plain");
+  want(wf_path_rate_ofdm(&path, STATIONS, 6, &reply), WF_BAD_STATION, "wf_path_rate_ofdm");
+  want(wf_path_rate_dsss(&path, STATIONS, 2, &reply), WF_BAD_STATION, "wf_path_rate_dsss");
+  want(wf_path_rate_ofdm(&path, 0, 6, &reply), WF_NO_STATION, "wf_path_rate_ofdm");
+  want(wf_path_rate_dsss(&path, 0, 2, &reply), WF_NO_STATION, "wf_path_rate_dsss");
+  want(wf_path_rate_ofdm(&path, 2, 7, &reply), WF_BAD_RATE, "7 Mbit/s of OFDM");
+  want(wf_path_rate_dsss(&path, 2, 1, &reply), WF_BAD_RATE, "half a Mbit/s of DSSS");
+  want(wf_path_rate_ofdm(&path, 1, 6, &reply), WF_AGREED, "OFDM for a station with agreements");
+  want(wf_path_hold(&path, 2, 0, &reply), WF_OK, "wf_path_hold");
+  want(wf_path_rate_dsss(&path, 2, 22, &reply), WF_AGREED, "DSSS for a station with a TID that is held");
+  want(wf_path_free_tid(&path, 2, 0, &reply), WF_OK, "wf_path_free_tid");
+  want(wf_path_rate_dsss(&path, 2, 22, &reply), WF_OK, "wf_path_rate_dsss");
+  want(wf_path_hold(&path, 2, 0, &reply), WF_LEGACY, "a hold at a rate of DSSS");
+  want(wf_path_rate_ht(&path, 2, 7, 20, 0, &reply), WF_OK, "wf_path_rate_ht");
+  want(wf_path_hold(&path, 2, 0, &reply), WF_OK, "a hold at a rate of HT");
+  wf_path_free(&path);
 }
 
 static void misuse_clock(void) {
@@ -304,6 +331,7 @@ static void misuse_bare(void) {
 static void misuse_classes(void) {
   struct wf_reply before = reply;
   struct wf_share share = {0}, none = {0};
+  uint32_t air = 7;
   frames.count = 3;
   want(wf_path_pull(&path, WF_VO + 1, &reply, &frames), WF_BAD_CLASS, "a pull of class 4");
   want(frames.count, 3, "the frames of class 4");
@@ -313,6 +341,9 @@ static void misuse_classes(void) {
   want(wf_path_share(&path, 0, 4, &share), WF_BAD_CLASS, "the share of class 4");
   want(wf_path_share(&path, 3, 4, &share), WF_BAD_CLASS, "the share of class 4");
   unchanged(&share, &none, sizeof share, "WF_BAD_CLASS");
+  want(wf_path_pending(&path, 3, 4, &air), WF_BAD_CLASS, "the airtime in flight of class 4");
+  want(wf_path_pending(&path, 3, WF_VO, &air), WF_NO_STATION, "the airtime in flight to no station");
+  want(air == 7, 1, "the airtime in flight to no station");
   want(wf_path_can_pull(&path, 4), 0, "a pull of class 4");
   want(wf_path_listed(&path, 0, 4), 0, "the lists of class 4");
 }
@@ -643,7 +674,6 @@ static void misuse_exchanges(void) {
 }
 
 static void misuse_stops(void) {
-  struct wf_frames frames;
   want(wf_path_ampdu(&path, 1, 4095, &reply), WF_BAD_AMPDU, "an aggregate of 4,095 octets");
   want(wf_path_ampdu(&path, 1, 6500632, &reply), WF_BAD_AMPDU, "an aggregate of 6,500,632 octets");
   want(wf_path_start(&path, 1, &reply), WF_STARTED, "a start of one that is not stopped");
@@ -671,6 +701,28 @@ static void misuse_sleepers(void) {
   unchanged(&share, &none, sizeof share, "wf_path_share");
   want(wf_path_live(&path, 3), 0, "a station that is not live");
   want(wf_path_live(&path, 65535), 0, "a station that there is not");
+}
+
+/* Reads queues that do not exist, and the octets of no TID. */
+static void misuse_queues(void) {
+  const struct wf_settings settings = some_settings();
+  const uint32_t queues = settings.flows + 8 * settings.stations;
+  struct wf_codel codel, before;
+  uint64_t octets = 7;
+  memset(&codel, 7, sizeof codel);
+  before = codel;
+  want(wf_path_octets(&path, 3, 8, &octets), WF_BAD_TID, "wf_path_octets");
+  want(wf_path_octets(&path, 3, 7, &octets), WF_NO_STATION, "wf_path_octets");
+  want(wf_path_octets(&path, 65535, 255, &octets), WF_BAD_TID, "wf_path_octets");
+  want(octets == 7, 1, "the octets of no TID");
+  want(wf_path_codel(&path, queues, &codel), WF_BAD_INDEX, "wf_path_codel");
+  want(wf_path_codel(&path, 0xffffffff, &codel), WF_BAD_INDEX, "wf_path_codel");
+  unchanged(&codel, &before, sizeof codel, "wf_path_codel");
+  want(wf_path_octets(&path, 0, 7, &octets), WF_OK, "wf_path_octets");
+  want(wf_path_codel(&path, queues - 1, &codel), WF_OK, "the last queue");
+  memset(&before, 0, sizeof before);
+  unchanged(&codel, &before, sizeof codel, "a queue from which nothing was taken");
+  want(octets == 0, 1, "the octets of a new station");
 }
 
 /* Reads counts of TIDs and stations that do not exist. */
@@ -716,6 +768,7 @@ static void misuse_path(void) {
   }
   misuse_stations();
   misuse_counts();
+  misuse_queues();
   misuse_addresses();
   misuse_bsses();
   misuse_joins();
@@ -745,6 +798,7 @@ static void misuse_path(void) {
   want(wf_path_join(&path, 1, 64, 0, 3, 1, &reply), WF_OK, "wf_path_join");
   misuse_modes();
   wf_path_free(&path);
+  misuse_legacy();
 }
 
 /* A cell with room for eight calls. */
@@ -769,7 +823,7 @@ static void misuse_cell(void) {
   call.kind = WF_CALL_CEASE + 1;
   want(wf_cell_ask(&cell, 0, &call, &reply), WF_BAD_CALL, "a call of no kind");
   call.kind = WF_CALL_RATE;
-  call.form = WF_FORM_HE + 1;
+  call.form = WF_FORM_DSSS + 1;
   want(wf_cell_ask(&cell, 0, &call, &reply), WF_BAD_CALL, "a rate of no format");
   call.kind = WF_CALL_PULL;
   call.class_ = 4;
@@ -804,9 +858,9 @@ static void misuse_cell(void) {
 
 /* Numbers without a meaning, and those that got one last. */
 static void misuse_names(void) {
-  static const int32_t NONE[] = {-1, 39, 50, 59, 100, WF_BAD_SETTING + PLACES + 1, INT32_MAX, INT32_MIN};
-  static const int32_t SOME[] = {WF_OFFLOADED, WF_AGREED, WF_TID_HELD, WF_NOT_HELD, WF_NOT_AGREED, WF_WAITS, WF_BAD_AID};
-  static const char *const WORDS[] = {"offloaded", "agreed", "held", "not-held", "not-agreed", "waits", "bad-aid"};
+  static const int32_t NONE[] = {-1, 50, 59, 100, WF_BAD_SETTING + PLACES + 1, INT32_MAX, INT32_MIN};
+  static const int32_t SOME[] = {WF_OFFLOADED, WF_AGREED, WF_TID_HELD, WF_NOT_HELD, WF_NOT_AGREED, WF_WAITS, WF_LEGACY, WF_BAD_AID};
+  static const char *const WORDS[] = {"offloaded", "agreed", "held", "not-held", "not-agreed", "waits", "legacy", "bad-aid"};
   size_t i;
   for (i = 0; i < sizeof NONE / sizeof *NONE; i++) {
     char name[WF_NAME] = {0};

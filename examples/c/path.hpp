@@ -146,6 +146,12 @@ class Path {
                                      std::uint8_t streams, wf_reply &reply) {
     return wf_path_rate_he(&handle_, station, mcs, mhz, guard, streams, &reply);
   }
+  [[nodiscard]] std::int32_t rate_ofdm(std::uint16_t station, std::uint8_t mbps, wf_reply &reply) {
+    return wf_path_rate_ofdm(&handle_, station, mbps, &reply);
+  }
+  [[nodiscard]] std::int32_t rate_dsss(std::uint16_t station, std::uint8_t half_mbps, wf_reply &reply) {
+    return wf_path_rate_dsss(&handle_, station, half_mbps, &reply);
+  }
   [[nodiscard]] std::int32_t tick(std::uint32_t by, wf_reply &reply) {
     return wf_path_tick(&handle_, by, &reply);
   }
@@ -268,6 +274,9 @@ class Path {
   [[nodiscard]] std::int32_t share(std::uint16_t station, wf_class access, wf_share &out) const {
     return wf_path_share(&handle_, station, static_cast<std::uint8_t>(access), &out);
   }
+  [[nodiscard]] std::int32_t pending(std::uint16_t station, wf_class access, std::uint32_t &air) const {
+    return wf_path_pending(&handle_, station, static_cast<std::uint8_t>(access), &air);
+  }
   bool can_pull(wf_class access) const {
     return wf_path_can_pull(&handle_, static_cast<std::uint8_t>(access)) != 0;
   }
@@ -277,6 +286,12 @@ class Path {
   bool has_small_counts() const { return wf_path_has_small_counts(&handle_) != 0; }
   [[nodiscard]] std::int32_t queued(std::uint16_t station, std::uint8_t tid, std::uint32_t &count) const {
     return wf_path_queued(&handle_, station, tid, &count);
+  }
+  [[nodiscard]] std::int32_t octets(std::uint16_t station, std::uint8_t tid, std::uint64_t &out) const {
+    return wf_path_octets(&handle_, station, tid, &out);
+  }
+  [[nodiscard]] std::int32_t codel(std::uint32_t queue, wf_codel &out) const {
+    return wf_path_codel(&handle_, queue, &out);
   }
   [[nodiscard]] std::int32_t waiting(std::uint16_t station, std::uint8_t tid, std::uint32_t &count) const {
     return wf_path_waiting(&handle_, station, tid, &count);

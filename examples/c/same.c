@@ -19,7 +19,7 @@
 #include "wf.h"
 
 enum { STATIONS = 6, NUMBERS = 4096, OPEN = 32, CHARGE = 5000, DEBT = 9000, TICK = 10000000, ATTEMPTS = 4 };
-enum { SETTINGS = 24, IDS = 1 << 20, AIDS = 2008 };
+enum { FLOWS = 32, SETTINGS = 25, IDS = 1 << 20, AIDS = 2008 };
 
 /* An open exchange. */
 struct exchange {
@@ -29,6 +29,7 @@ struct exchange {
   uint8_t request;
   uint8_t batch;
   uint8_t plain;
+  uint32_t air;
   uint16_t start; /* of its BlockAckReq */
   struct wf_frames frames;
   uint8_t unsent[256]; /* by transmission: 1 if it is marked as one that never went on the air */
@@ -111,13 +112,47 @@ static void call_join_offload(uint16_t s) {
   write_answer(code, NULL);
 }
 
-/* Compares the readers of a live station's TID with its open exchanges. */
+/* Returns the octets that a live station has in the queues. */
+static uint64_t queued_octets(uint16_t s) {
+  uint64_t all = 0, octets = 0;
+  uint32_t queued = 0;
+  uint8_t tid;
+  for (tid = 0; tid < 8; tid++) {
+    if (wf_path_octets(&path, s, tid, &octets) || wf_path_queued(&path, s, tid, &queued)) fail("no octets of a live station");
+    if (octets < queued || octets > (uint64_t)queued * WF_GREATEST_BODY) fail("more or fewer octets than the frames have");
+    all += octets;
+  }
+  return all;
+}
+
+/* Checks that the queues together have the octets of all stations. */
+static void look_at_queues(void) {
+  struct wf_codel codel = {0};
+  uint64_t all = 0;
+  uint32_t queue;
+  uint16_t s;
+  for (queue = 0; wf_path_codel(&path, queue, &codel) == WF_OK; queue++) {
+    if (codel.dropping > 1 || codel.drop_count < codel.dropping) fail("a queue that drops, and has dropped nothing");
+    all += codel.octets;
+  }
+  if (queue != FLOWS + 8 * STATIONS) fail("another number of queues");
+  for (s = 0; s < STATIONS; s++) {
+    if (wf_path_live(&path, s)) all -= queued_octets(s);
+  }
+  if (all != 0) fail("octets of no station");
+}
+
+/* Compares the readers of a live station's TID, and of its class, with the open exchanges. */
 static void look_at_tid(uint16_t s, uint8_t tid) {
-  uint32_t wanted = 0, flying = 0, waiting = 0, drained = 2;
+  static const uint8_t class_of[8] = {WF_BE, WF_BK, WF_BK, WF_BE, WF_VI, WF_VI, WF_VO, WF_VO};
+  uint32_t wanted = 0, flying = 0, waiting = 0, drained = 2, owed = 0, air = 0;
   int i;
   for (i = 0; i < open_count; i++) {
-    if (exchanges[i].station == s && exchanges[i].tid == tid) wanted += exchanges[i].frames.count;
+    if (exchanges[i].station != s) continue;
+    if (exchanges[i].tid == tid) wanted += exchanges[i].frames.count;
+    if (class_of[exchanges[i].tid] == class_of[tid]) owed += exchanges[i].air;
   }
+  if (wf_path_pending(&path, s, class_of[tid], &air) || air != owed) fail("another airtime in flight");
   if (wf_path_flying(&path, s, tid, &flying) || flying != wanted) fail("another number of frames on the air");
   if (wf_path_waiting(&path, s, tid, &waiting) || wf_path_drained(&path, s, tid, &drained)) fail("no count of a live station");
   if (drained != (flying == 0 && waiting == 0)) fail("drained, and not drained");
@@ -143,6 +178,7 @@ static void call_mode(uint16_t s) {
   uint8_t tid = (uint8_t)below(below(50) ? 8 : 10);
   int32_t code;
   if (tid < 8 && wf_path_live(&path, s)) look_at_tid(s, tid);
+  if (below(16) == 0) look_at_queues();
   switch (below(5)) {
     case 0:
       code = wf_path_hold(&path, s, tid, &reply);
@@ -184,6 +220,24 @@ static void call_rate_he(uint16_t s) {
   uint16_t guard = (uint16_t)(below(9) ? 800 << below(3) : 400);
   int32_t code = wf_path_rate_he(&path, s, mcs, mhz, guard, streams, &reply);
   fprintf(trace, "rate %u he %u %u %u %u\n", (unsigned)s, (unsigned)mcs, (unsigned)mhz, (unsigned)guard, (unsigned)streams);
+  write_answer(code, NULL);
+}
+
+/* Sets a rate of OFDM or DSSS, sometimes one that does not exist. */
+static void call_rate_legacy(uint16_t s) {
+  static const uint8_t OFDM[] = {6, 9, 12, 18, 24, 36, 48, 54}, DSSS[] = {2, 4, 11, 22};
+  uint8_t speed = (uint8_t)below(256);
+  int is_bad = below(9) == 0;
+  int32_t code;
+  if (below(2)) {
+    if (!is_bad) speed = OFDM[speed % 8];
+    code = wf_path_rate_ofdm(&path, s, speed, &reply);
+    fprintf(trace, "rate %u ofdm %u\n", (unsigned)s, (unsigned)speed);
+  } else {
+    if (!is_bad) speed = DSSS[speed % 4];
+    code = wf_path_rate_dsss(&path, s, speed, &reply);
+    fprintf(trace, "rate %u dsss %u\n", (unsigned)s, (unsigned)speed);
+  }
   write_answer(code, NULL);
 }
 
@@ -374,6 +428,7 @@ static void call_pull(void) {
   x->request = reply.request;
   x->batch = reply.batch;
   x->plain = reply.plain;
+  x->air = reply.air;
   x->start = reply.start;
   if (x->batch && x->request) fail("a batch that is a request");
   if (x->plain && (x->batch || x->request || x->frames.count != 1)) fail("a plain exchange of other than one frame");
@@ -713,7 +768,7 @@ static void call(void) {
   else if (which < 91) call_join(s);
   else if (which < 92) call_plain(s);
   else if (which < 93) call_join_offload(s);
-  else if (which < 94) call_rate(s);
+  else if (which < 94) below(3) ? call_rate(s) : call_rate_legacy(s);
   else if (which < 95) call_rate_vht(s);
   else if (which < 96) call_rate_he(s);
   else if (which < 97) call_advance();
@@ -787,7 +842,7 @@ static void open_path(void) {
   settings.stations = STATIONS;
   settings.flows = 5000;
   if (wf_path_make(&path, &settings) != WF_BAD_SETTING + 2) fail("5000 flows are taken");
-  settings.flows = 32;
+  settings.flows = FLOWS;
   settings.reserved[1] = 1;
   if (wf_path_make(&path, &settings) != WF_BAD_SETTING + SETTINGS + 2) fail("a setting that is none is taken");
   settings.reserved[1] = 0;
@@ -802,6 +857,7 @@ static void open_path(void) {
   settings.debt = 1000001;
   if (wf_path_make(&path, &settings) != WF_BAD_SETTING + 14) fail("a debt of 1000001 is taken");
   settings.debt = DEBT;
+  settings.legacy = 2;
   if (wf_path_make(&path, &settings)) fail("there is no path");
   write_settings(&settings);
   for (s = 0; s < STATIONS; s++) {

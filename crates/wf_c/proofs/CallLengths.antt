@@ -3,7 +3,7 @@ use Rattle.std.proofs.Common.{◌≡◌, ℕ, refl, Option, Some, None, length, 
 use Rattle.wf_frame.specs.Calls.{arguments_of, note_form, note_values, form_of_limits, values_of_frames, values_of_air}
 use Rattle.wf_frame.specs.declared.calls.Value.TheVariants.{Class as Of_class}
 use Rattle.wf_frame.specs.declared.classes.Class.{Class}
-use Rattle.wf_frame.specs.declared.notes.AskedRate.TheVariants.{Ht, Vht, He}
+use Rattle.wf_frame.specs.declared.notes.AskedRate.TheVariants.{Ht, Vht, He, Ofdm, Dsss}
 use Rattle.wf_frame.specs.declared.notes.Ask.TheVariants.{Join, Leave, Rate, Tick, Pull, Arrive, Answer, Done, Sleep, Wake, Poll, Rx, Reap, Ampdu, Stop, Start, Unsent, GiveUp, Flush, Offload, Weight, Plain, Hold, Begin, Free, Cease}
 use Rattle.wf_frame.specs.declared.notes.Note.{Note}
 use Rattle.wf_frame.specs.declared.notes.Note.TheVariants.{Enqueue, Asked}
@@ -22,6 +22,8 @@ as_many (Asked (Leave station)) = refl
 as_many (Asked (Rate station (Ht mcs mhz short))) = refl
 as_many (Asked (Rate station (Vht mcs mhz short streams))) = refl
 as_many (Asked (Rate station (He mcs mhz guard streams))) = refl
+as_many (Asked (Rate station (Ofdm mbps))) = refl
+as_many (Asked (Rate station (Dsss half))) = refl
 as_many (Asked (Tick by)) = refl
 as_many (Asked (Pull class limits)) = of_pull class limits.frames limits.air
 as_many (Asked (Arrive exchange index)) = refl

@@ -8,7 +8,7 @@ use Rattle.wf_frame.specs.Classes.{all_classes, class_among, class_number}
 use Rattle.wf_frame.specs.declared.classes.Class.{Class}
 use Rattle.wf_frame.specs.declared.notes.Note.TheVariants.{Enqueue, Asked}
 use Rattle.wf_frame.specs.declared.notes.Ask.TheVariants.{Join, Leave, Rate, Tick, Pull, Arrive, Answer, Done, Sleep, Wake, Poll, Rx, Reap, Ampdu, Stop, Start, Unsent, GiveUp, Flush, Offload, Weight, Plain, Hold, Begin, Free, Cease}
-use Rattle.wf_frame.specs.declared.notes.AskedRate.TheVariants.{Ht, Vht, He}
+use Rattle.wf_frame.specs.declared.notes.AskedRate.TheVariants.{Ht, Vht, He, Ofdm, Dsss}
 use Rattle.wf_c.specs.CallNumbers.{blank_call, numbers_of_call, asked, call_noted}
 use Rattle.wf_c.specs.Numbers.{flag_of, is_up}
 use Rattle.wf_c.specs.declared.cell.calls.CallNumbers.{CallNumbers}
@@ -61,6 +61,16 @@ pub fields_of_he : (station mcs mhz guard streams : ℕ) →
       streams = streams;
     }
 fields_of_he station mcs mhz guard streams = refl
+
+pub fields_of_ofdm : (station mbps : ℕ) →
+    numbers_of_call (Asked (Rate station (Ofdm mbps)))
+    ≡ record blank_call { kind = 2; station = station; form = 3; speed = mbps }
+fields_of_ofdm station mbps = refl
+
+pub fields_of_dsss : (station half : ℕ) →
+    numbers_of_call (Asked (Rate station (Dsss half)))
+    ≡ record blank_call { kind = 2; station = station; form = 4; speed = half }
+fields_of_dsss station half = refl
 
 pub fields_of_tick : (by : ℕ) → numbers_of_call (Asked (Tick by)) ≡ record blank_call { kind = 3; by = by }
 fields_of_tick by = refl
@@ -192,7 +202,9 @@ pub record Rows (c : CallNumbers) : Type 0 where
   pub vht : asked (record c { kind = 2; form = 1 })
       ≡ Some (Rate c.station (Vht c.mcs c.mhz (is_up c.short) c.streams))
   pub he : asked (record c { kind = 2; form = 2 }) ≡ Some (Rate c.station (He c.mcs c.mhz c.guard c.streams))
-  pub no_rate : (n : ℕ) → 2 < n → asked (record c { kind = 2; form = n }) ≡ None
+  pub ofdm : asked (record c { kind = 2; form = 3 }) ≡ Some (Rate c.station (Ofdm c.speed))
+  pub dsss : asked (record c { kind = 2; form = 4 }) ≡ Some (Rate c.station (Dsss c.speed))
+  pub no_rate : (n : ℕ) → 4 < n → asked (record c { kind = 2; form = n }) ≡ None
   pub tick : asked (record c { kind = 3 }) ≡ Some (Tick c.by)
   pub enqueue : asked (record c { kind = 4 }) ≡ None
   pub pull : c.class ≤ 3 → asked (record c { kind = 5; frames = 0; air = 0 })
@@ -252,8 +264,15 @@ rows c = record {
   ht = refl;
   vht = refl;
   he = refl;
-  no_rate = λ n less.
-      rw (above n 0 (omega (arith, less)), above n 1 (omega (arith, less)), above n 2 less) refl;
+  ofdm = refl;
+  dsss = refl;
+  no_rate = λ n less. rw (
+    above n 0 (omega (arith, less)),
+    above n 1 (omega (arith, less)),
+    above n 2 (omega (arith, less)),
+    above n 3 (omega (arith, less)),
+    above n 4 less,
+  ) refl;
   tick = refl;
   enqueue = refl;
   pull = λ low. rw (is_class c.class low) refl;

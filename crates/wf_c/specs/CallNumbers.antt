@@ -43,6 +43,7 @@ blank_call = record {
   short = 0;
   streams = 0;
   heard = 0;
+  speed = 0;
 }
 
 -- ---- the fields of arguments
@@ -51,10 +52,15 @@ blank_call = record {
 abbrev pub format_number : RateFormat → ℕ
 format_number format.Vht = 1
 format_number format.He = 2
+format_number format.Ofdm = 3
+format_number format.Dsss = 4
 
 -- the format with this number
 abbrev pub format_shown : ℕ → RateFormat
-format_shown n = if n == 1 then format.Vht else format.He
+format_shown n =
+    if n == 1 then format.Vht
+    else (if n == 2 then format.He
+    else (if n == 3 then format.Ofdm else format.Dsss))
 
 -- the value of an argument that the fields show
 abbrev pub value_in : CallNumbers → Argument → Value
@@ -70,6 +76,8 @@ value_in c argument.Mhz = value.Octet c.mhz
 value_in c argument.Guard = value.Guard (is_up c.short)
 value_in c argument.Nanoseconds = value.Short c.guard
 value_in c argument.Streams = value.Octet c.streams
+value_in c argument.Speed = value.Octet c.speed
+value_in c argument.HalfSpeed = value.Octet c.speed
 value_in c argument.By = value.Long c.by
 value_in c argument.Tid = value.Octet c.tid
 value_in c argument.Flow = value.Long c.flow
@@ -99,6 +107,8 @@ with_argument c argument.Mhz (value.Octet n) = record c { mhz = n }
 with_argument c argument.Guard (value.Guard short) = record c { short = flag_of short }
 with_argument c argument.Nanoseconds (value.Short n) = record c { guard = n }
 with_argument c argument.Streams (value.Octet n) = record c { streams = n }
+with_argument c argument.Speed (value.Octet n) = record c { speed = n }
+with_argument c argument.HalfSpeed (value.Octet n) = record c { speed = n }
 with_argument c argument.By (value.Long n) = record c { by = n }
 with_argument c argument.Tid (value.Octet n) = record c { tid = n }
 with_argument c argument.Flow (value.Long n) = record c { flow = n }
@@ -137,7 +147,9 @@ form_of_format n =
     if n == 0 then Some form.Rate
     else (if n == 1 then Some form.RateVht
     else (if n == 2 then Some form.RateHe
-    else None))
+    else (if n == 3 then Some form.RateOfdm
+    else (if n == 4 then Some form.RateDsss
+    else None))))
 
 -- the form of a call that has a class, if there is a class with this number
 abbrev pub form_of_class : CallForm → ℕ → Option CallForm

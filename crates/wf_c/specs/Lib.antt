@@ -15,6 +15,7 @@ pub mod Making
 pub mod Names
 pub mod Numbers
 pub mod Pulled
+pub mod Queued
 pub mod Shares
 pub mod Slots
 pub mod Versions

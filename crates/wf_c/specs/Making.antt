@@ -7,7 +7,7 @@ use Rattle.wf_c.specs.declared.settings.Settings.{Settings}
 
 -- the place of the first reserved number: it follows the settings
 abbrev pub first_reserved : ℕ
-first_reserved = 25
+first_reserved = 26
 
 -- the place of the first reserved number that is not 0, if any
 abbrev pub first_set : List ℕ → Option ℕ
@@ -46,6 +46,7 @@ config_of s = record {
   cap_vo = s.cap_vo;
   answers = s.answers;
   credits = s.credits;
+  legacy = s.legacy;
 }
 
 -- end settings

@@ -4,7 +4,7 @@
 
 ghost use Rattle.std.specs.Prelude.{◌≡◌, true, is_some, pos, IfSome, IfNone, OnSome};
 ghost use Rattle.wf_frame.specs.declared.notes.Ask.TheVariants.{Join, Leave, Rate, Tick, Pull, Sleep, Wake, Poll, Rx, Ampdu, Stop, Start, Unsent, GiveUp, Flush, Offload, Weight, Plain, Hold, Begin, Free, Cease};
-ghost use Rattle.wf_frame.specs.declared.notes.AskedRate.TheVariants.{Ht, Vht, He};
+ghost use Rattle.wf_frame.specs.declared.notes.AskedRate.TheVariants.{Ht, Vht, He, Ofdm, Dsss};
 ghost use Rattle.wf_frame.specs.Calls.{no_limits};
 ghost use Rattle.wf_path.specs.Jobs.{as_ask};
 ghost use Rattle.wf_c.specs.Bodies.{IsUntouched};
@@ -317,6 +317,42 @@ pub extern "C" fn wf_path_rate_he(
         guard,
         streams,
     };
+    path.ask(PathAsk::Rate { station, rate }, reply)
+}
+
+/// Sets a station's rate, a rate of OFDM of `mbps` Mbit/s.
+#[unsafe(no_mangle)]
+pub extern "C" fn wf_path_rate_ofdm(
+    path: &mut PathSlot,
+    station: u16,
+    mbps: u8,
+    reply: &mut Reply,
+) -> i32
+    requires open { is_some path.old.value ≡ true }
+    requires small { HoldsSmall path.old.value }
+    ensures called { Becomes (λ h k. IsCalled h (Rate station (Ofdm mbps)) k reply.new)
+        path.old.value path.new.value }
+    ensures code { result ≡ pos reply.new.refusal }
+{
+    let rate = AskedRate::Ofdm { mbps };
+    path.ask(PathAsk::Rate { station, rate }, reply)
+}
+
+/// Sets a station's rate, a rate of DSSS of `half_mbps` half Mbit/s.
+#[unsafe(no_mangle)]
+pub extern "C" fn wf_path_rate_dsss(
+    path: &mut PathSlot,
+    station: u16,
+    half_mbps: u8,
+    reply: &mut Reply,
+) -> i32
+    requires open { is_some path.old.value ≡ true }
+    requires small { HoldsSmall path.old.value }
+    ensures called { Becomes (λ h k. IsCalled h (Rate station (Dsss half_mbps)) k reply.new)
+        path.old.value path.new.value }
+    ensures code { result ≡ pos reply.new.refusal }
+{
+    let rate = AskedRate::Dsss { half_mbps };
     path.ask(PathAsk::Rate { station, rate }, reply)
 }
 

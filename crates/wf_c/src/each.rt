@@ -36,16 +36,14 @@ fn outcome_of_number(number: u8) -> Outcome
     }
 }
 
-// The outcomes with these numbers, at the front; the rest has no meaning.
-fn outcomes_of(numbers: &[u8]) -> [Outcome; MOST]
+// Writes the outcomes with these numbers to the front of the list.
+fn put_outcomes(numbers: &[u8], outcomes: &mut [Outcome; MOST])
     requires { length numbers.now ≤ 256 }
-    ensures { take (length numbers.now) result ≡ map outcome_shown numbers.now }
+    ensures { take (length numbers.now) outcomes.new ≡ map outcome_shown numbers.now }
 {
-    let mut outcomes = [Outcome::Retry; MOST];
     for i in 0..numbers.len() {
         outcomes[i] = outcome_of_number(numbers[i]);
     }
-    outcomes
 }
 
 // Returns whether one of these numbers is no number of an outcome.
@@ -62,7 +60,8 @@ impl Held {
         requires few { length numbers.now ≤ 256 }
         ensures { IsExchangeEndedEach self.old exchange (map outcome_shown numbers.now) air self.new result }
     {
-        let outcomes = outcomes_of(numbers);
+        let mut outcomes = [Outcome::Retry; MOST];
+        put_outcomes(numbers, &mut outcomes);
         self.answer.brief = self
             .path
             .done_each(exchange, &outcomes[..numbers.len()], air);

@@ -7,7 +7,7 @@ ghost use Rattle.wf_c.specs.Making.{bad_place, config_of, first_set};
 use wf_frame::Config;
 
 // The place of the first reserved number: it follows the settings.
-const FIRST_RESERVED: u8 = 25;
+const FIRST_RESERVED: u8 = 26;
 
 /// The settings of a path: those of `wf_frame::Config`, in its order, with the same units and ranges.
 #[repr(C)]
@@ -38,9 +38,10 @@ pub struct Settings {
     pub cap_vo: u32,
     pub answers: u32,
     pub credits: u32,
+    pub legacy: u32,
     // end fields
     /// Room for later settings: each has to be 0.
-    pub reserved: [u32; 8],
+    pub reserved: [u32; 7],
 }
 
 impl Settings {
@@ -74,6 +75,7 @@ impl Settings {
             cap_vo: self.cap_vo,
             answers: self.answers,
             credits: self.credits,
+            legacy: self.legacy,
             // end config
         }
     }
@@ -102,7 +104,7 @@ impl Settings {
     // The index of the first reserved number that is not 0.
     fn first_set(&self) -> Option<usize>
         ensures index { result ≡ position (λ number. not (number == 0)) self.now.reserved }
-        ensures inside { IfSome result (λ i. i < 8) }
+        ensures inside { IfSome result (λ i. i < 7) }
     {
         self.reserved.iter().position(|number| *number != 0)
     }
@@ -111,7 +113,7 @@ impl Settings {
 // The settings as the caller's struct has them.
 fn shown(config: &Config) -> Settings
     ensures config { config_of result ≡ config.now }
-    ensures reserved { result.reserved ≡ replicate 8 0 }
+    ensures reserved { result.reserved ≡ replicate 7 0 }
 {
     Settings {
         // begin shown: tools/tables writes these lines
@@ -139,8 +141,9 @@ fn shown(config: &Config) -> Settings
         cap_vo: config.cap_vo,
         answers: config.answers,
         credits: config.credits,
+        legacy: config.legacy,
         // end shown
-        reserved: [0; 8],
+        reserved: [0; 7],
     }
 }
 
@@ -148,7 +151,7 @@ fn shown(config: &Config) -> Settings
 #[unsafe(no_mangle)]
 pub extern "C" fn wf_settings_standard(settings: &mut Settings)
     ensures config { config_of settings.new ≡ standard }
-    ensures reserved { settings.new.reserved ≡ replicate 8 0 }
+    ensures reserved { settings.new.reserved ≡ replicate 7 0 }
 {
     *settings = shown(&Config::standard());
 }
@@ -157,7 +160,7 @@ pub extern "C" fn wf_settings_standard(settings: &mut Settings)
 #[unsafe(no_mangle)]
 pub extern "C" fn wf_settings_device(settings: &mut Settings)
     ensures config { config_of settings.new ≡ device }
-    ensures reserved { settings.new.reserved ≡ replicate 8 0 }
+    ensures reserved { settings.new.reserved ≡ replicate 7 0 }
 {
     *settings = shown(&Config::device());
 }

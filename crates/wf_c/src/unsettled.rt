@@ -92,7 +92,7 @@ pub extern "C" fn wf_path_drained(
 }
 
 // The count of a flag: 1 if it is set, else 0.
-fn count_of_flag(flag: bool) -> u32
+pub(crate) fn count_of_flag(flag: bool) -> u32
     ensures { result ≡ flag_of flag }
 {
     u32::from(flag)

@@ -50,7 +50,7 @@ pub struct CallNumbers {
     pub exponent: u8,
     /// The weight of a station.
     pub weight: u8,
-    /// The format of a rate: 0 for HT, 1 for VHT, 2 for HE.
+    /// The format of a rate: 0 for HT, 1 for VHT, 2 for HE, 3 for OFDM, 4 for DSSS.
     pub form: u8,
     /// The MCS of a rate.
     pub mcs: u8,
@@ -62,6 +62,8 @@ pub struct CallNumbers {
     pub streams: u8,
     /// Other than 0 if the BlockAck of an exchange was heard.
     pub heard: u8,
+    /// The speed of a rate of OFDM in Mbit/s, or of DSSS in half Mbit/s.
+    pub speed: u8,
 }
 
 // All fields 0.
@@ -89,6 +91,7 @@ const BLANK: CallNumbers = CallNumbers {
     short: 0,
     streams: 0,
     heard: 0,
+    speed: 0,
 };
 
 // The number of a format. 0 is the number of HT, which is no value of the argument.
@@ -98,6 +101,8 @@ fn number_of_format(format: RateFormat) -> u8
     match format {
         RateFormat::Vht => 1,
         RateFormat::He => 2,
+        RateFormat::Ofdm => 3,
+        RateFormat::Dsss => 4,
     }
 }
 
@@ -105,10 +110,11 @@ fn number_of_format(format: RateFormat) -> u8
 fn format_of_number(number: u8) -> RateFormat
     ensures { result ≡ format_shown number }
 {
-    if number == 1 {
-        RateFormat::Vht
-    } else {
-        RateFormat::He
+    match number {
+        1 => RateFormat::Vht,
+        2 => RateFormat::He,
+        3 => RateFormat::Ofdm,
+        _ => RateFormat::Dsss,
     }
 }
 
@@ -120,6 +126,8 @@ fn form_of_rate(number: u8) -> Option<CallForm>
         0 => Some(CallForm::Rate),
         1 => Some(CallForm::RateVht),
         2 => Some(CallForm::RateHe),
+        3 => Some(CallForm::RateOfdm),
+        4 => Some(CallForm::RateDsss),
         _ => None,
     }
 }
@@ -182,6 +190,7 @@ impl CallNumbers {
             Argument::Guard => Value::Guard(self.short != 0),
             Argument::Nanoseconds => Value::Short(self.guard),
             Argument::Streams => Value::Octet(self.streams),
+            Argument::Speed | Argument::HalfSpeed => Value::Octet(self.speed),
             Argument::By => Value::Long(self.by),
             Argument::Tid => Value::Octet(self.tid),
             Argument::Flow => Value::Long(self.flow),
@@ -214,6 +223,7 @@ impl CallNumbers {
             (Argument::Guard, Value::Guard(short)) => self.short = u8::from(short),
             (Argument::Nanoseconds, Value::Short(number)) => self.guard = number,
             (Argument::Streams, Value::Octet(number)) => self.streams = number,
+            (Argument::Speed | Argument::HalfSpeed, Value::Octet(number)) => self.speed = number,
             (Argument::By, Value::Long(number)) => self.by = number,
             (Argument::Tid, Value::Octet(number)) => self.tid = number,
             (Argument::Flow, Value::Long(number)) => self.flow = number,

@@ -1,8 +1,8 @@
 -- Proves that the loop puts each outcome at its place, one at a time.
-use Rattle.std.proofs.Common.{refl, take, get_or, ◌∷◌, [], ◌∙◌, arith, length}
+use Rattle.std.proofs.Common.{refl, take, get_or, ◌∷◌, [], ◌∙◌, arith}
 use Rattle.std.proofs.lemmas.List.{take_more, take_more_set, length-set, map-append}
 use Rattle.wf_c.specs.Each.{outcome_shown}
-use Rattle.wf_c.proofs.each.outcomes_of.Goals as goal
+use Rattle.wf_c.proofs.each.put_outcomes.Goals as goal
 
 pub loop-i-preserved : goal.loop-i-preserved
 loop-i-preserved c = (
