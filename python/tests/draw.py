@@ -5,15 +5,33 @@ import random
 from collections.abc import Callable
 from typing import Any
 
-from wfpath import RANGES, AccessClass, CallKind, Cell, Exchange, Fate, Outcome, Path, Rate, Refused, errors, trace
+from wfpath import (
+    GREATEST_BODY,
+    RANGES,
+    AccessClass,
+    CallKind,
+    Cell,
+    Exchange,
+    Fate,
+    Outcome,
+    Path,
+    Rate,
+    Refused,
+    errors,
+    trace,
+)
 from wfpath import _tables as tables
 from wfpath._library import error
 from wfpath._tables import Kind
 from wfpath.raw import Call
 
 STATIONS, CHARGE, TICK = 6, 5000, 10_000_000
+# The class of each TID.
+CLASS_OF = [AccessClass(class_) for class_ in (1, 0, 0, 1, 2, 2, 3, 3)]
 SETTINGS = {"stations": STATIONS, "flows": 32, "limit": 40, "room": 400, "attempts": 4, "sleeping": 8}
 SETTINGS["charge"] = CHARGE
+# Whether calls on agreements have rates of OFDM and DSSS too. The setting for them replaces `codel_reset`.
+HAS_LEGACY = "legacy" in RANGES
 # Rules that are off in the standard settings, as far as the library has them: these for every second seed, and
 # OTHERS for the seeds between. A head has no room for all.
 RULES = {"aql_total": 1500, "debt": 20000, "keep_order": 1, "codel_reset": 1, "aql": 1200, "pending": 1}
@@ -25,9 +43,12 @@ WORDS |= {"join_offload": "joined", "set_weight": "set", "plain": "joined", "beg
 COUNTS = {"leave": "left", "flush": "flushed", "tick": "now", "rx": "charged", "hold": "held"}
 
 
-def settings_of(seed: int) -> dict[str, int]:
+def settings_of(seed: int, agreements: bool) -> dict[str, int]:
     """Returns the settings for a seed."""
     rules = {name: value for name, value in (OTHERS if seed % 2 else RULES).items() if name in RANGES}
+    if agreements and HAS_LEGACY:
+        rules["legacy"] = 2
+        rules.pop("codel_reset", None)
     return {**SETTINGS, **rules}
 
 
@@ -112,6 +133,9 @@ class Draw:
 
     def rate(self, station: int) -> None:
         """A rate of one of the formats, sometimes one that does not exist."""
+        if self.agreements and HAS_LEGACY and self.below(2):
+            self.legacy_rate(station)
+            return
         mhz = self.random.choice((20, 40, 80, 160, 30))
         rate = self.random.choice(
             (
@@ -120,6 +144,14 @@ class Draw:
                 Rate.he(self.below(13), mhz, self.below(10), self.random.choice((800, 1600, 3200, 400))),
             )
         )
+        self.call(f"rate {station} {rate}", "set_rate", station, rate)
+
+    def legacy_rate(self, station: int) -> None:
+        """A rate of OFDM or DSSS, seldom one that does not exist."""
+        ofdm, dsss = self.random.choice((6, 9, 12, 18, 24, 36, 48, 54)), self.random.choice((2, 4, 11, 22))
+        other = self.below(256)
+        rates = (Rate.ofdm(ofdm), Rate.dsss(dsss), Rate.ofdm(other) if self.below(8) == 0 else Rate.ofdm(ofdm))
+        rate = self.random.choice(rates)
         self.call(f"rate {station} {rate}", "set_rate", station, rate)
 
     def enqueue(self, station: int) -> None:
@@ -251,7 +283,7 @@ class PathDraw(Draw):
     """Random calls of a path. It keeps what arrives at the stations, and passes it on in BlockAcks."""
 
     def __init__(self, seed: int, calls: int, agreements: bool = False) -> None:
-        super().__init__(seed, Path(calls=4 * calls + 1000, **settings_of(seed)), agreements)
+        super().__init__(seed, Path(calls=4 * calls + 1000, **settings_of(seed, agreements)), agreements)
         self.open: list[Exchange] = []
         # The id that arrived last, by station, TID and sequence number.
         self.arrived: dict[tuple[int, int, int], int] = {}
@@ -285,11 +317,16 @@ class PathDraw(Draw):
             self.look_at(exchange.station, exchange.tid)
 
     def look_at(self, station: int, tid: int) -> None:
-        """A look at the numbers of a TID."""
+        """A look at the numbers of a TID, at its queued frames, and at the airtime in flight of its class."""
         flying = sum(len(one.ids) for one in self.open if (one.station, one.tid) == (station, tid))
         waiting = self.handle.waiting(station, tid)
         assert self.handle.flying(station, tid) == flying
         assert self.handle.drained(station, tid) == (flying + waiting == 0)
+        queued = self.handle.queued(station, tid)
+        assert queued <= self.handle.octets(station, tid) <= queued * GREATEST_BODY
+        class_ = CLASS_OF[tid]
+        owed = sum(one.air for one in self.open if one.station == station and CLASS_OF[one.tid] == class_)
+        assert self.handle.pending(station, class_) == owed
 
     def pull(self) -> None:
         """A pull, and a look at what it opened."""
@@ -421,7 +458,7 @@ class CellDraw(Draw):
     """Random calls of a cell."""
 
     def __init__(self, seed: int, calls: int, agreements: bool = False) -> None:
-        super().__init__(seed, Cell(calls=calls, **settings_of(seed)), agreements)
+        super().__init__(seed, Cell(calls=calls, **settings_of(seed, agreements)), agreements)
         self.open: list[int] = []
         self.opened = 0
         while len(self.answers) < calls:

@@ -13,6 +13,7 @@ from wfpath import (
     AccessClass,
     BlockError,
     CallKind,
+    Codel,
     Fate,
     Outcome,
     Path,
@@ -321,6 +322,9 @@ class Calls(unittest.TestCase):
             lambda: self.path.set_aid(0, 65536),
             lambda: self.path.set_bss(65536, bytes(6)),
             lambda: self.path.tim(b"12345"),
+            lambda: self.path.octets(0, 256),
+            lambda: self.path.codel(2**32),
+            lambda: self.path.pending(0, 4),
         ):
             with self.assertRaises(ValueError):
                 call()
@@ -374,6 +378,29 @@ class Calls(unittest.TestCase):
         self.assertEqual(path.tally(), (1, 0, 0, 0, 0, 0, 0, 0))
         self.assertEqual(path.leave(0), 1)
         self.assertEqual([frame.fate.word for frame in path.reap_all()], ["left"])
+
+
+    def test_the_queues(self) -> None:
+        path = self.path
+        path.join(0)
+        for length in range(1000, 1008):
+            path.enqueue(0, length, tid=5, flow=1024 + 3)
+        self.assertEqual((path.octets(0, 5), path.octets(0, 4)), (sum(range(1000, 1008)), 0))
+        airs = []
+        # The target and the interval at a rate below 12 Mbit/s: CoDel drops the second frame.
+        for wait in (50_000, 300_000):
+            path.tick(wait)
+            airs.append(path.pull(AccessClass.VI, frames=1).air)
+        self.assertEqual(path.octets(0, 5), sum(range(1003, 1008)))
+        self.assertEqual(path.codel(3), Codel(path.octets(0, 5), 650_000, 1, True))
+        self.assertEqual(path.codel(1024 + 15), Codel(0, 0, 0, False))
+        self.assertEqual((path.pending(0, AccessClass.VI), path.pending(0, BE)), (sum(airs), 0))
+        with self.assertRaises(errors.BadIndex):
+            path.codel(1024 + 16)
+        with self.assertRaises(errors.BadTid):
+            path.octets(0, 8)
+        with self.assertRaises(errors.NoStation):
+            path.pending(1, BE)
 
 
 class Handles(unittest.TestCase):

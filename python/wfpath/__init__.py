@@ -28,7 +28,7 @@ from ._tables import (
     Outcome,
     Settings,
 )
-from .answers import Accepted, Block, Burst, Ceased, Done, Exchange, Reaped, Sent, Share, Tally
+from .answers import Accepted, Block, Burst, Ceased, Codel, Done, Exchange, Reaped, Sent, Share, Tally
 from .cell import Cell
 from .errors import BlockError, Refused, WfError
 from .path import Path
@@ -47,6 +47,7 @@ __all__ = [
     "CallKind",
     "Ceased",
     "Cell",
+    "Codel",
     "Done",
     "Exchange",
     "Fate",

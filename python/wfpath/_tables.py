@@ -131,6 +131,8 @@ class Form(enum.IntEnum):
     HT = 0
     VHT = 1
     HE = 2
+    OFDM = 3
+    DSSS = 4
 
     @property
     def word(self) -> str:
@@ -219,6 +221,9 @@ class Settings:
     credits: int = 0
     """Whether a credit blocks the next poll only while the station can send in the credit's class [0..1]."""
 
+    legacy: int = 0
+    """Which rates a station may have: HT, VHT and HE; with 1 also OFDM; with 2 also OFDM and DSSS [0..2]."""
+
     @classmethod
     def device(cls, **others: int) -> Settings:
         """Returns the settings for devices, with others in their place."""
@@ -264,6 +269,7 @@ RANGES: dict[str, tuple[int, int]] = {
     "cap_vo": (0, 5400),
     "answers": (0, 1),
     "credits": (0, 1),
+    "legacy": (0, 2),
 }
 
 
@@ -305,9 +311,10 @@ class SettingsStruct(ctypes.Structure):
     cap_vo: int
     answers: int
     credits: int
+    legacy: int
     reserved: ctypes.Array[ctypes.c_uint32]
 
-    LAYOUT = "@IIIIIIIIIIIIIIIIIIIIIIII8I"
+    LAYOUT = "@IIIIIIIIIIIIIIIIIIIIIIIII7I"
     _fields_ = [
         ("stations", ctypes.c_uint32),
         ("flows", ctypes.c_uint32),
@@ -333,7 +340,8 @@ class SettingsStruct(ctypes.Structure):
         ("cap_vo", ctypes.c_uint32),
         ("answers", ctypes.c_uint32),
         ("credits", ctypes.c_uint32),
-        ("reserved", ctypes.c_uint32 * 8),
+        ("legacy", ctypes.c_uint32),
+        ("reserved", ctypes.c_uint32 * 7),
     ]
 
 
@@ -533,6 +541,23 @@ class ShareStruct(ctypes.Structure):
     ]
 
 
+class CodelStruct(ctypes.Structure):
+    """struct wf_codel; LAYOUT is its format for the module struct."""
+
+    octets: int
+    drop_next: int
+    drop_count: int
+    dropping: int
+
+    LAYOUT = "@QQII"
+    _fields_ = [
+        ("octets", ctypes.c_uint64),
+        ("drop_next", ctypes.c_uint64),
+        ("drop_count", ctypes.c_uint32),
+        ("dropping", ctypes.c_uint32),
+    ]
+
+
 class CellStruct(ctypes.Structure):
     """struct wf_cell; LAYOUT is its format for the module struct."""
 
@@ -570,8 +595,9 @@ class CallStruct(ctypes.Structure):
     short_guard: int
     streams: int
     heard: int
+    speed: int
 
-    LAYOUT = "@QIIIIIHHHHHHBBBBBBBBBBB"
+    LAYOUT = "@QIIIIIHHHHHHBBBBBBBBBBBB"
     _fields_ = [
         ("exchange", ctypes.c_uint64),
         ("flow", ctypes.c_uint32),
@@ -596,6 +622,7 @@ class CallStruct(ctypes.Structure):
         ("short_guard", ctypes.c_uint8),
         ("streams", ctypes.c_uint8),
         ("heard", ctypes.c_uint8),
+        ("speed", ctypes.c_uint8),
     ]
 
 
@@ -776,6 +803,24 @@ FUNCTIONS: dict[str, tuple[Any, tuple[Any, ...]]] = {
             ctypes.c_uint16,
             ctypes.c_uint8,
             ctypes.c_uint8,
+            ctypes.c_uint16,
+            ctypes.c_uint8,
+            ctypes.POINTER(ReplyStruct),
+        ),
+    ),
+    "wf_path_rate_ofdm": (
+        ctypes.c_int32,
+        (
+            ctypes.POINTER(PathStruct),
+            ctypes.c_uint16,
+            ctypes.c_uint8,
+            ctypes.POINTER(ReplyStruct),
+        ),
+    ),
+    "wf_path_rate_dsss": (
+        ctypes.c_int32,
+        (
+            ctypes.POINTER(PathStruct),
             ctypes.c_uint16,
             ctypes.c_uint8,
             ctypes.POINTER(ReplyStruct),
@@ -1063,6 +1108,15 @@ FUNCTIONS: dict[str, tuple[Any, tuple[Any, ...]]] = {
             ctypes.POINTER(ShareStruct),
         ),
     ),
+    "wf_path_pending": (
+        ctypes.c_int32,
+        (
+            ctypes.POINTER(PathStruct),
+            ctypes.c_uint16,
+            ctypes.c_uint8,
+            ctypes.POINTER(ctypes.c_uint32),
+        ),
+    ),
     "wf_path_can_pull": (ctypes.c_int32, (ctypes.POINTER(PathStruct), ctypes.c_uint8,)),
     "wf_path_listed": (ctypes.c_int32, (ctypes.POINTER(PathStruct), ctypes.c_uint16, ctypes.c_uint8,)),
     "wf_path_has_small_counts": (ctypes.c_int32, (ctypes.POINTER(PathStruct),)),
@@ -1073,6 +1127,23 @@ FUNCTIONS: dict[str, tuple[Any, tuple[Any, ...]]] = {
             ctypes.c_uint16,
             ctypes.c_uint8,
             ctypes.POINTER(ctypes.c_uint32),
+        ),
+    ),
+    "wf_path_octets": (
+        ctypes.c_int32,
+        (
+            ctypes.POINTER(PathStruct),
+            ctypes.c_uint16,
+            ctypes.c_uint8,
+            ctypes.POINTER(ctypes.c_uint64),
+        ),
+    ),
+    "wf_path_codel": (
+        ctypes.c_int32,
+        (
+            ctypes.POINTER(PathStruct),
+            ctypes.c_uint32,
+            ctypes.POINTER(CodelStruct),
         ),
     ),
     "wf_path_waiting": (

@@ -157,3 +157,13 @@ class Share(NamedTuple):
     deficit: int
     charged: int
     rx: int
+
+
+class Codel(NamedTuple):
+    """A queue: the octets of its bodies, and the state of CoDel in it (RFC 8289). If `dropping` is true, pulls
+    drop frames: the next one from the time `drop_next` on, which follows from `drop_count`."""
+
+    octets: int
+    drop_next: int
+    drop_count: int
+    dropping: bool

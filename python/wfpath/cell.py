@@ -128,14 +128,14 @@ class Cell(Handle):
 
     def set_rate(self, station: int, rate: Rate) -> None:
         """Sets the rate of data to a station."""
-        form, mcs, mhz, short, streams, guard = rate
-        if station >> 16 or mcs >> 8 or mhz >> 8 or streams >> 8 or guard >> 16:
-            other = {"streams": (streams, 8), "guard": (guard, 16)}
+        form, mcs, mhz, short, streams, guard, speed = rate
+        if station >> 16 or mcs >> 8 or mhz >> 8 or streams >> 8 or guard >> 16 or speed >> 8:
+            other = {"streams": (streams, 8), "guard": (guard, 16), "speed": (speed, 8)}
             raise out_of_range(station=(station, 16), mcs=(mcs, 8), mhz=(mhz, 8), **other)
         call = self._calls[CallKind.RATE]
         made = call.struct
         made.station, made.form, made.mcs, made.mhz = station, Form(form), mcs, mhz
-        made.short_guard, made.streams, made.guard = short, streams, guard
+        made.short_guard, made.streams, made.guard, made.speed = short, streams, guard, speed
         self._must(self._code(call))
 
     def sleep(self, station: int) -> None:

@@ -44,15 +44,17 @@ class BadExponent(Refused):
 
 
 class BadRate(Refused):
-    """The rate does not exist: its format does not have this MCS, width, guard interval or number of streams,
-    or it is one of the ten combinations that VHT leaves out (wf_path_rate_vht).
+    """The rate does not exist: its format does not have this MCS, width, guard interval, number of streams or
+    speed, or it is one of the ten combinations that VHT leaves out; or the setting `legacy` does not allow it
+    (wf_path_rate_vht, wf_path_rate_ofdm).
     """
 
     code = 5
     word = "bad-rate"
     about = (
-        "the rate does not exist: its format does not have this MCS, width, guard interval or number of "
-        "streams, or it is one of the ten combinations that VHT leaves out (wf_path_rate_vht)"
+        "the rate does not exist: its format does not have this MCS, width, guard interval, number of "
+        "streams or speed, or it is one of the ten combinations that VHT leaves out; or the setting "
+        "`legacy` does not allow it (wf_path_rate_vht, wf_path_rate_ofdm)"
     )
 
 
@@ -296,11 +298,13 @@ class Offloaded(Refused):
 
 
 class Agreed(Refused):
-    """The TID has an agreement."""
+    """`hold`: the TID has an agreement; `rate` to OFDM or DSSS: a TID of the station has one or is held."""
 
     code = 34
     word = "agreed"
-    about = "the TID has an agreement"
+    about = (
+        "`hold`: the TID has an agreement; `rate` to OFDM or DSSS: a TID of the station has one or is held"
+    )
 
 
 class Held(Refused):
@@ -334,6 +338,14 @@ class Waits(Refused):
     word = "waits"
     about = "`count` sequence numbers of the TID wait to be sent"
     field = "count"
+
+
+class Legacy(Refused):
+    """The rate of the station is one of OFDM or DSSS, at which it has no agreement."""
+
+    code = 39
+    word = "legacy"
+    about = "the rate of the station is one of OFDM or DSSS, at which it has no agreement"
 
 
 class NoMemory(WfError):
@@ -524,6 +536,7 @@ ERRORS: dict[int, type[WfError]] = {
     36: NotHeld,
     37: NotAgreed,
     38: Waits,
+    39: Legacy,
     40: NoMemory,
     41: BadLength,
     42: SmallBuffer,

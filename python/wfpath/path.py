@@ -9,7 +9,7 @@ from . import _tables as tables
 from ._handle import BODY_ROOM, NO_ROOM, NO_SOURCE, QUICK, WAITS, Body, C, Handle, address_octets
 from ._library import out_of_range
 from ._tables import AccessClass, Form, Settings
-from .answers import CLASSES, Accepted, Burst, Done, Exchange, Reaped, Sent, Share, Tally
+from .answers import CLASSES, Accepted, Burst, Codel, Done, Exchange, Reaped, Sent, Share, Tally
 from .errors import Nothing
 from .rates import Rate
 from .raw import Call
@@ -104,16 +104,20 @@ class Path(Handle):
 
     def set_rate(self, station: int, rate: Rate) -> None:
         """Sets the rate of data to a station."""
-        form, mcs, mhz, short, streams, guard = rate
-        if station >> 16 or mcs >> 8 or mhz >> 8 or streams >> 8 or guard >> 16:
-            other = {"streams": (streams, 8), "guard": (guard, 16)}
+        form, mcs, mhz, short, streams, guard, speed = rate
+        if station >> 16 or mcs >> 8 or mhz >> 8 or streams >> 8 or guard >> 16 or speed >> 8:
+            other = {"streams": (streams, 8), "guard": (guard, 16), "speed": (speed, 8)}
             raise out_of_range(station=(station, 16), mcs=(mcs, 8), mhz=(mhz, 8), **other)
         if form == Form.HT:
             code = C.wf_path_rate_ht(self._at, station, mcs, mhz, short, self._reply_at)
         elif form == Form.VHT:
             code = C.wf_path_rate_vht(self._at, station, mcs, mhz, short, streams, self._reply_at)
-        else:
+        elif form == Form.HE:
             code = C.wf_path_rate_he(self._at, station, mcs, mhz, guard, streams, self._reply_at)
+        elif form == Form.OFDM:
+            code = C.wf_path_rate_ofdm(self._at, station, speed, self._reply_at)
+        else:
+            code = C.wf_path_rate_dsss(self._at, station, speed, self._reply_at)
         self._must(code)
 
     def sleep(self, station: int) -> None:
@@ -439,6 +443,14 @@ class Path(Handle):
         self._must(C.wf_path_share(self._at, station, class_, ctypes.byref(share)))
         return Share(*_SHARE.unpack_from(share)[: len(Share._fields)])
 
+    def pending(self, station: int, class_: int) -> int:
+        """Returns a station's airtime in flight in a class: the computed airtime of its open exchanges."""
+        if station >> 16 or class_ >> 2:
+            raise out_of_range(station=(station, 16), class_=(class_, 2))
+        air = ctypes.c_uint32()
+        self._must(C.wf_path_pending(self._at, station, class_, ctypes.byref(air)))
+        return air.value
+
     def listed(self, station: int, class_: int) -> int:
         """Returns the list of a class that has a station: 1 the new list, 2 the old list, 0 neither."""
         if station >> 16 or class_ >> 2:
@@ -448,6 +460,20 @@ class Path(Handle):
     def queued(self, station: int, tid: int) -> int:
         """Returns how many frames of a station's TID are in flow queues."""
         return self._of_tid(C.wf_path_queued, station, tid)
+
+    def octets(self, station: int, tid: int) -> int:
+        """Returns the octets of the bodies of a station's TID in flow queues."""
+        return self._of_tid(C.wf_path_octets, station, tid, ctypes.c_uint64)
+
+    def codel(self, queue: int) -> Codel:
+        """Returns the octets of a queue, and the state of CoDel in it. The frames of a flow are in queue `flow`
+        modulo `flows` or, if another TID uses this queue, in queue `flows` + 8 * station + TID. Raises BadIndex
+        if there is no such queue."""
+        if queue >> 32:
+            raise out_of_range(queue=(queue, 32))
+        found = tables.CodelStruct()
+        self._must(C.wf_path_codel(self._at, queue, ctypes.byref(found)))
+        return Codel(found.octets, found.drop_next, found.drop_count, found.dropping != 0)
 
     def waiting(self, station: int, tid: int) -> int:
         """Returns how many sequence numbers of a station's TID wait to be sent."""
@@ -494,11 +520,17 @@ class Path(Handle):
             raise out_of_range(station=(station, 16), tid=(tid, 8))
         self._must(function(self._at, station, tid, self._reply_at))
 
-    def _of_tid(self, function: "ctypes._FuncPointer", station: int, tid: int) -> int:
-        """Reads a count that belongs to a station's TID."""
+    def _of_tid(
+        self,
+        function: "ctypes._FuncPointer",
+        station: int,
+        tid: int,
+        kind: type[ctypes.c_uint32 | ctypes.c_uint64] = ctypes.c_uint32,
+    ) -> int:
+        """Reads a count that belongs to a station's TID, of this type of C."""
         if station >> 16 or tid >> 8:
             raise out_of_range(station=(station, 16), tid=(tid, 8))
-        count = ctypes.c_uint32()
+        count = kind()
         self._must(function(self._at, station, tid, ctypes.byref(count)))
         return count.value
 

@@ -10,7 +10,7 @@ from .rates import Rate
 FIELDS: dict[CallKind, tuple[str, ...]] = {
     CallKind.JOIN: ("station", "window", "start", "exponent", "weight"),
     CallKind.LEAVE: ("station",),
-    CallKind.RATE: ("station", "form", "mcs", "mhz", "short_guard", "streams", "guard"),
+    CallKind.RATE: ("station", "form", "mcs", "mhz", "short_guard", "streams", "guard", "speed"),
     CallKind.TICK: ("by",),
     CallKind.ENQUEUE: ("station", "tid", "flow", "length"),
     CallKind.PULL: ("class_", "frames", "air"),
@@ -76,7 +76,8 @@ def arguments(kind: CallKind, fields: dict[str, int]) -> tuple[str, ...]:
 def rate(fields: dict[str, int]) -> Rate:
     """Returns the rate of a call."""
     form, short_guard = Form(fields["form"]), fields["short_guard"] != 0
-    return Rate(form, fields["mcs"], fields["mhz"], short_guard, fields["streams"], fields["guard"])
+    numbers = (fields["streams"], fields["guard"], fields["speed"])
+    return Rate(form, fields["mcs"], fields["mhz"], short_guard, *numbers)
 
 
 def head(settings: Settings) -> str:
