@@ -32,10 +32,10 @@ class Agreements:
         self.losses = {one.number: random.Random(f"{scenario.seed} addba {one.number} {one.name}") for one in plain}
 
     def opened(self, exchange: Exchange) -> None:
-        """Holds the TID of an exchange without an agreement that was pulled, unless it is held or its station sleeps."""
-        key = (exchange.station, exchange.tid)
-        if key not in self.held and exchange.station not in self.asleep:
-            self.path.hold(self.stations[exchange.station], exchange.tid)
+        """Holds the TID of an exchange without an agreement that was pulled, unless it is held, its station sleeps, or it gets none."""
+        key, station = (exchange.station, exchange.tid), self.stations[exchange.station]
+        if station.plain and key not in self.held and exchange.station not in self.asleep:
+            self.path.hold(station, exchange.tid)
             self.held[key] = None
 
     def ended(self, exchange: Exchange) -> None:

@@ -15,7 +15,7 @@ from .fields import Fault
 from .frames import Exchange, Frame
 from .machine import LONGEST_TICK, MOST_COMING, Held, NoRoom
 from .program import OutOfCalls
-from .rates import Rate
+from .rates import Legacy, Rate
 from .scenario import Scenario, Station
 
 HISTORIES = (1 << 26, 1 << 24, 1 << 22, 1 << 20)  # calls that a cell gets room for: the most that there is memory for
@@ -107,7 +107,7 @@ class Cell(Held):
         values = {"station": station.number, "exponent": 3, "weight": station.weight}
         if station.offload:
             self.must(CallKind.OFFLOAD, **values)
-        elif station.plain:
+        elif station.joins_plain:
             self.must(CallKind.PLAIN, start=0, **values)
         else:
             self.must(CallKind.JOIN, window=station.window, start=0, **values)
@@ -118,6 +118,9 @@ class Cell(Held):
         self.reap()
 
     def set_rate(self, station: Station, rate: Rate) -> None:
+        if isinstance(rate, Legacy):
+            self.must(CallKind.RATE, station=station.number, form=Form[rate.format.upper()], speed=rate.speed)
+            return
         is_he = rate.format == "he"
         guard = {"guard": rate.guard if is_he else 0, "short_guard": int(not is_he and rate.guard == 400)}
         form = Form[rate.format.upper()]

@@ -139,7 +139,7 @@ class Machine(Held):
     def join(self, station: Station) -> None:
         if station.offload:
             form = f"offload {station.number}"
-        elif station.plain:
+        elif station.joins_plain:
             form = f"plain {station.number} 0"
         else:
             form = f"join {station.number} {station.window} 0"

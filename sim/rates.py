@@ -17,19 +17,61 @@ MOST_MCS = {"ht": 15, "vht": 9, "he": 11}
 # Combinations of MCS, MHz and streams without a rate in VHT.
 NO_VHT_RATES = {*((9, 20, streams) for streams in (1, 2, 4, 5, 7, 8)), (6, 80, 3), (6, 80, 7), (9, 80, 6), (9, 160, 3)}
 
+# Speeds of OFDM in Mbit/s and of DSSS in half Mbit/s, and by the setting `legacy` the longest time of a frame alone.
+SPEEDS = {"ofdm": (6, 9, 12, 18, 24, 36, 48, 54), "dsss": (2, 4, 11, 22)}
+LONGEST_ALONE = (3000, 3200, 19_200)
+
 MOST_TEXT = 40  # characters of a rate's text
 
 SIFS = 16
+ACK = 28
 BLOCK_ACK = 32
 WIDE_BLOCK_ACK = 40
+DELIMITER = 4  # octets before each frame of an aggregate
 # The most octets of an aggregate at the A-MPDU length exponent 3.
 MOST_OCTETS = {"ht": 2**16 - 1, "vht": 2**20 - 1, "he": 2**20 - 1}
 SLOW_KBIT = 12_000  # CoDel is more patient below this rate
 
 
 @dataclass(frozen=True)
-class Rate:
-    """A rate: its format `ht`, `vht` or `he`, the MCS, the width in MHz, the guard interval in nanoseconds, and the streams."""
+class Legacy:
+    """A rate of OFDM or DSSS: its format `ofdm` or `dsss`, and its Mbit/s or half Mbit/s. It has no aggregates."""
+
+    format: str
+    speed: int
+
+    def __str__(self) -> str:
+        """As in a trace's line."""
+        return f"{self.format} {self.speed}"
+
+    @property
+    def setting(self) -> int:
+        """The least value of the setting `legacy` that allows the rate."""
+        return 1 if self.format == "ofdm" else 2
+
+    @property
+    def kbit(self) -> int:
+        """Kilobits a second."""
+        return self.speed * (1000 if self.format == "ofdm" else 500)
+
+    def data_time(self, octets: int) -> int:
+        """Whole microseconds of a frame of this many octets."""
+        if self.format == "ofdm":
+            return 20 + 4 * -(-(8 * octets + 22) // (4 * self.speed))
+        return 192 - (-16 * octets // self.speed)
+
+    def octets_within(self, microseconds: int) -> int:
+        """The most octets of an aggregate: none, so a frame goes alone."""
+        return 0
+
+    @property
+    def most_octets(self) -> int:
+        return 0
+
+
+@dataclass(frozen=True)
+class MimoRate:
+    """A rate of HT, VHT or HE: its format `ht`, `vht` or `he`, the MCS, the width in MHz, the guard interval in nanoseconds, and the streams."""
 
     format: str
     mcs: int
@@ -129,21 +171,27 @@ class Rate:
         return MOST_OCTETS[self.format]
 
 
-def rate_of(form: str, mcs: int, mhz: int, guard: int, streams: int) -> Rate | None:
+Rate = MimoRate | Legacy
+
+
+def rate_of(form: str, mcs: int, mhz: int, guard: int, streams: int) -> MimoRate | None:
     """The rate of these numbers, or None if there is none."""
     guards = (800, 1600, 3200) if form == "he" else (800, 400)
     if mcs > MOST_MCS[form] or mhz not in CARRIERS[form] or guard not in guards or not 1 <= streams <= 8:
         return None
     if form == "vht" and (mcs, mhz, streams) in NO_VHT_RATES:
         return None
-    return Rate(form, mcs, mhz, guard, streams)
+    return MimoRate(form, mcs, mhz, guard, streams)
 
 
 def parse_rate(text: str) -> Rate | None:
-    """The rate of a text as in a trace: `MCS MHZ GUARD`, `vht MCS MHZ GUARD N` or `he MCS MHZ GUARD N`; None if it is none."""
+    """The rate of a text as in a trace: `MCS MHZ GUARD`, `vht MCS MHZ GUARD N`, `he MCS MHZ GUARD N`, `ofdm MBIT` or
+    `dsss HALF_MBIT`; None if it is none."""
     if not text.isascii() or len(text) > MOST_TEXT:
         return None
     words = text.split()
+    if words[:1] in (["ofdm"], ["dsss"]):
+        return legacy_of(*words) if len(words) == 2 else None
     form = words.pop(0) if words[:1] in (["vht"], ["he"]) else "ht"
     if len(words) != (3 if form == "ht" else 4):
         return None
@@ -154,6 +202,11 @@ def parse_rate(text: str) -> Rate | None:
         return None
     mcs, mhz, *streams = map(int, words)
     return rate_of(form, mcs, mhz, int(guard), streams[0] if streams else 1 + mcs // 8)
+
+
+def legacy_of(form: str, speed: str) -> Legacy | None:
+    """The rate of OFDM or DSSS with this speed, or None if there is none."""
+    return Legacy(form, int(speed)) if speed.isdecimal() and int(speed) in SPEEDS[form] else None
 
 
 def subframe(body: int) -> int:
@@ -167,5 +220,8 @@ def padded(body: int) -> int:
 
 
 def charge(rate: Rate, octets: int, window: int) -> int:
-    """Microseconds that an exchange of this aggregate is charged: its data, SIFS and the BlockAck of a session of this window."""
+    """Microseconds that an exchange of this aggregate is charged: its data, SIFS and the BlockAck of a session of this window.
+    At a rate of OFDM or DSSS it is one frame without a delimiter, which an Ack answers."""
+    if isinstance(rate, Legacy):
+        return rate.data_time(octets - DELIMITER) + SIFS + ACK
     return rate.data_time(octets) + SIFS + (BLOCK_ACK if window <= 64 else WIDE_BLOCK_ACK)

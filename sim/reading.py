@@ -9,7 +9,7 @@ from pathlib import Path
 from .fields import Fault, Table
 from .flows import KINDS, read_flows
 from .plots import PICTURES
-from .rates import SIFS, WIDE_BLOCK_ACK, Rate, parse_rate
+from .rates import LONGEST_ALONE, SIFS, WIDE_BLOCK_ACK, Legacy, Rate, parse_rate
 from .scenario import MACHINE, MODEL_SETTINGS, Air, Scenario, Station
 from .settings import settings
 
@@ -21,7 +21,7 @@ MOST_STATIONS = 256
 LONGEST_ANSWER = SIFS + WIDE_BLOCK_ACK  # microseconds after the data of an exchange
 STANDARD_LOSS = 0.001
 AGREEMENTS = ("join", "first-frame")  # when agreements begin
-RATE_EXPECTED = 'a rate as in a trace, such as "15 20 short", "vht 9 80 short 2" or "he 11 80 800 2"'
+RATE_EXPECTED = 'a rate as in a trace, such as "15 20 short", "vht 9 80 short 2", "he 11 80 800 2", "ofdm 54" or "dsss 2"'
 
 
 def load(path: str | Path) -> dict[str, object]:
@@ -59,6 +59,7 @@ def from_table(top: Table, name: str) -> Scenario:
         flows=read_flows(top, seconds, stations),
         compare=top.texts("compare", [MACHINE]),
     )
+    allow_rates(top, scenario)
     if scenario.air.charge_access:
         allow_charges(top, scenario, "charge_access is true")
     elif any(station.is_measured for station in stations):
@@ -70,9 +71,16 @@ def from_table(top: Table, name: str) -> Scenario:
     return scenario
 
 
+def allow_rates(top: Table, scenario: Scenario) -> None:
+    """Sets `legacy` so that each station may have its rates, or refuses a value that is too low for that."""
+    least = max(station.legacy for station in scenario.stations)
+    if least and scenario.settings.setdefault("legacy", least) < least:
+        raise top.table("machine").wrong("legacy", f"at least {least}, since a station has a rate of {'OFDM' if least == 1 else 'DSSS'}")
+
+
 def allow_charges(top: Table, scenario: Scenario, why: str) -> None:
     """Sets `charge` so that every exchange may be charged with its access, or refuses a value that is too low for that."""
-    longest = scenario.setting("cap") + LONGEST_ANSWER + scenario.air.longest_access
+    longest = max(scenario.setting("cap"), LONGEST_ALONE[scenario.setting("legacy")]) + LONGEST_ANSWER + scenario.air.longest_access
     if scenario.settings.setdefault("charge", settings()["charge"].greatest) < longest:
         expected = f"at least {longest}, the longest exchange with its access, since {why}"
         raise top.table("machine").wrong("charge", expected)
@@ -169,7 +177,17 @@ def read_station(table: Table, group: str, seconds: float) -> Station:
     if station.offload and table.has("agreements"):
         raise table.wrong("agreements", "no agreements, since the device of an offloaded station makes its own")
     table.finish()
-    return station
+    return single(table, station) if station.legacy else station
+
+
+def single(table: Table, station: Station) -> Station:
+    """A station at rates of OFDM or DSSS: each of its frames goes alone, so the window of its models is 1."""
+    if not all(isinstance(rate, Legacy) for rate in [station.rate, *(rate for _, rate in station.rates)]):
+        raise table.fault("some rates are of OFDM or DSSS: expected all or none, since a change of the rate ends no agreement")
+    for key in ("window", "agreements"):
+        if table.has(key):
+            raise table.wrong(key, f"no {key}, since a station at a rate of OFDM or DSSS has no agreements")
+    return replace(station, window=1)
 
 
 def read_rates(table: Table, first: float, last: float) -> list[tuple[int, Rate]]:

@@ -5,7 +5,7 @@ import math
 from collections.abc import Mapping
 from dataclasses import dataclass, field, replace
 
-from .rates import Rate
+from .rates import Legacy, Rate
 from .settings import settings
 
 MACHINE = "airtime"  # the path that is no model
@@ -57,6 +57,21 @@ class Station:
     charge_error: float = 0.0
     offload: bool = False  # whether the device numbers, aggregates and repeats its frames
     plain: bool = False  # whether it joins without agreements: that of a TID begins at its first frame
+
+    @property
+    def is_single(self) -> bool:
+        """Whether its rates are of OFDM or DSSS, at which frames go one by one."""
+        return isinstance(self.rate, Legacy)
+
+    @property
+    def joins_plain(self) -> bool:
+        """Whether it joins without agreements."""
+        return self.plain or self.is_single
+
+    @property
+    def legacy(self) -> int:
+        """The least value of the setting `legacy` that allows its rates."""
+        return max(rate.setting if isinstance(rate, Legacy) else 0 for rate in [self.rate, *(rate for _, rate in self.rates)])
 
     @property
     def is_measured(self) -> bool:

@@ -35,6 +35,33 @@ ping_ms = 3
 [machine]
 limit = 700
 """
+LEGACY = """
+seconds = 2
+[[station]]
+name = "old"
+rate = "dsss 2"
+rates = [{ at = 0.5, rate = "ofdm 54" }, { at = 1.5, rate = "dsss 11" }]
+sleeps = [{ from = 0.8, to = 1.2 }]
+poll_ms = 20
+leave = 1.8
+loss = 0.1
+ack_loss = 0.05
+[[station]]
+name = "offloaded"
+rate = "ofdm 6"
+offload = true
+loss = 0.1
+[[flow]]
+station = "old"
+flood_mbit = 20
+[[flow]]
+station = "old"
+tid = 6
+ping_ms = 5
+[[flow]]
+station = "offloaded"
+flood_mbit = 20
+"""
 
 
 @functools.cache
@@ -63,7 +90,7 @@ class TheCell(unittest.TestCase):
         device = choose("airtime:device").settings
         charged = THREE_STATIONS + "[air]\ncharge_access = true\n"
         chosen_all = [scenario(text) for text in (THREE_STATIONS, COMING_AND_GOING, SLEEPING, TCP, MIXED, charged)]
-        chosen_all += [scenario(text) for text in (OFFLOADED, SLEEPING_OFFLOADED, LEAVING, FIRST_FRAME, SLEEPING_HELD, LEAVING_HELD)]
+        chosen_all += [scenario(text) for text in (OFFLOADED, SLEEPING_OFFLOADED, LEAVING, FIRST_FRAME, SLEEPING_HELD, LEAVING_HELD, LEGACY)]
         for chosen in [*chosen_all, *(one.with_settings(device) for one in chosen_all)]:
             (ours, here), (theirs, there) = (run(chosen, path) for path in (inside(chosen), machine(chosen)))
             self.assertEqual(fates(ours), fates(theirs))
@@ -71,7 +98,7 @@ class TheCell(unittest.TestCase):
             self.assertEqual(here.stations, there.stations)
 
     def test_each_format_of_rates(self) -> None:
-        for rate in ("7 40 short", "vht 9 80 short 2", "he 11 80 800 2"):
+        for rate in ("7 40 short", "vht 9 80 short 2", "he 11 80 800 2", "ofdm 54", "dsss 2"):
             chosen = scenario(ONE_STATION.replace("7 20 long", rate))
             self.assertEqual(fates(run(chosen, inside(chosen))[0]), fates(run(chosen, machine(chosen))[0]))
 

@@ -82,7 +82,7 @@ FAULTS = [  # a file's text, and what is reported after the file's name
     (GOOD + "[[station]]\ncount = 0\n", "[[station]] 2: count = 0: expected a whole number from 1 to 256"),
     (
         GOOD + '[[station]]\nrate = "15 20"\n',
-        '[[station]] 2: rate = "15 20": expected a rate as in a trace, such as "15 20 short", "vht 9 80 short 2" or "he 11 80 800 2"',
+        '[[station]] 2: rate = "15 20": expected a rate as in a trace, such as "15 20 short", "vht 9 80 short 2", "he 11 80 800 2", "ofdm 54" or "dsss 2"',
     ),
     (GOOD + "[[station]]\nweight = 17\n", "[[station]] 2: weight = 17: expected a whole number from 1 to 16"),
     (GOOD + "[[station]]\nwindow = 0\n", "[[station]] 2: window = 0: expected a whole number from 1 to 256"),
@@ -97,6 +97,26 @@ FAULTS = [  # a file's text, and what is reported after the file's name
     ),
     (GOOD + "[[station]]\nrates = 1\n", "[[station]] 2: rates = 1: expected tables [[rates]]"),
     (GOOD + "[[station]]\nrates = [{ at = 1 }]\n", "[[station]] 2 [[rates]] 1: rate is missing: expected a text of printable characters"),
+    (
+        GOOD + '[[station]]\nrate = "ofdm 54"\nrates = [{ at = 3, rate = "1 20 long" }]\n',
+        "[[station]] 2: some rates are of OFDM or DSSS: expected all or none, since a change of the rate ends no agreement",
+    ),
+    (
+        GOOD + '[[station]]\nrate = "ofdm 54"\nwindow = 3\n',
+        "[[station]] 2: window = 3: expected no window, since a station at a rate of OFDM or DSSS has no agreements",
+    ),
+    (
+        GOOD + '[[station]]\nrate = "dsss 2"\nagreements = "join"\n',
+        '[[station]] 2: agreements = "join": expected no agreements, since a station at a rate of OFDM or DSSS has no agreements',
+    ),
+    (
+        GOOD + '[[station]]\nrate = "dsss 2"\n[machine]\nlegacy = 1\n',
+        "[machine]: legacy = 1: expected at least 2, since a station has a rate of DSSS",
+    ),
+    (
+        GOOD + '[[station]]\nrate = "ofdm 6"\n[machine]\nlegacy = 0\n',
+        "[machine]: legacy = 0: expected at least 1, since a station has a rate of OFDM",
+    ),
     (
         GOOD + '[[station]]\nleave = 2\nrates = [{ at = 3, rate = "1 20 long" }]\n',
         "[[station]] 2 [[rates]] 1: at = 3: expected a number from 0 to 2",

@@ -153,7 +153,8 @@ class TheMachine(unittest.TestCase):
         self.assertGreater(result.jain, 0.999)
 
     def test_it_fits_the_models_airtimes(self) -> None:
-        for rate in ("0 20 long", "7 40 short", "15 20 short", "11 40 long", "vht 9 80 short 2", "vht 0 20 long 1", "he 11 80 800 2", "he 0 20 3200 1"):
+        rates = ["0 20 long", "7 40 short", "15 20 short", "11 40 long", "vht 9 80 short 2", "vht 0 20 long 1", "he 11 80 800 2", "he 0 20 3200 1"]
+        for rate in [*rates, "ofdm 6", "ofdm 54", "dsss 2", "dsss 11"]:
             text = f'seconds = 0.3\n[[station]]\nname = "a"\nrate = "{rate}"\n[[flow]]\nstation = "a"\nsize = 1001\nbacklog = 300\n'
             ours, theirs = scenario(text), scenario(text)
             model, result = run(ours, FqMac(ours))[1], run(theirs, machine(theirs))[1]

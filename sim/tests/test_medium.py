@@ -6,7 +6,7 @@ import unittest
 from sim.baselines.fifo import Fifo
 from sim.frames import Exchange
 from sim.medium import AccessPoint, Medium, Uplink, UplinkFrame
-from sim.rates import charge
+from sim.rates import Legacy, charge
 from sim.scenario import Air
 
 from .support import ONE_STATION, run, scenario
@@ -71,6 +71,13 @@ class Uplinks(unittest.TestCase):
         exchange = uplink(60, 60, 1500).take()
         # Two padded subframes of 96 octets and one of 1534.
         self.assertEqual((len(exchange.frames), exchange.air), (3, charge(STATION.rate, 96 + 96 + 1534, 64)))
+
+    def test_at_a_rate_of_ofdm_a_frame_goes_alone(self) -> None:
+        sender = uplink(60, 60)
+        sender.rate = Legacy("ofdm", 54)
+        exchange = sender.take()
+        # 90 octets are 742 bits, four symbols of 216; SIFS and the Ack are 44.
+        self.assertEqual((len(exchange.frames), exchange.air), (1, 20 + 16 + 44))
 
     def test_frames_that_did_not_arrive_are_sent_again(self) -> None:
         sender = uplink(60, 61, 62)

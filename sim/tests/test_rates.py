@@ -51,6 +51,12 @@ class Rates(unittest.TestCase):
         }
         self.assertEqual({(text, octets): rate(text).data_time(octets) for text, octets in wanted}, wanted)
 
+    def test_a_frame_of_ofdm_or_dsss(self) -> None:
+        # 1530 octets are 12,262 bits with SERVICE and the tail: 511 symbols of 24, or 57 of 216. 44 are SIFS and the Ack.
+        wanted = {"ofdm 6": 2064, "ofdm 54": 248, "dsss 2": 12_432, "dsss 22": 1305}
+        self.assertEqual({text: charge(rate(text), subframe(1500), 1) for text in wanted}, {text: time + 44 for text, time in wanted.items()})
+        self.assertEqual([rate(text).kbit for text in ("ofdm 6", "ofdm 54", "dsss 2", "dsss 11")], [6000, 54_000, 1000, 5500])
+
     def test_octets_within_is_the_most(self) -> None:
         texts = [f"{mcs} 20 {guard}" for mcs in range(16) for guard in ("long", "short")]
         texts += [f"vht {mcs} 80 {guard} 1" for mcs in range(10) for guard in ("long", "short")]
@@ -74,10 +80,11 @@ class Rates(unittest.TestCase):
             *("", "15", "16 20 short", "7 80 long", "7 20 brief", "-1 20 long", "7 20 long x", "ht 7 20 long", "7 20 800"),
             *("vht", "vht 9 20 short 2", "vht 9 80 800 2", "vht 9 80 short", "vht 9 80 short 9", "vht 9 80 short 2 2"),
             *("9" * 5000 + " 20 long", "٧ 20 long"),
+            *("ofdm", "ofdm 7", "ofdm 54 20", "ofdm -6", "ofdm 6.0", "dsss", "dsss 1", "dsss 5.5", "dsss 54"),
             *("he", "he 11 160 400 4", "he 11 160 short 4", "he 12 160 800 4", "he 11 160 800 0", "he 11 160 -800 4"),
         ):
             self.assertIsNone(parse_rate(text), text)
-        for text in ("15 20 short", "vht 9 20 short 3", "he 11 160 3200 8"):
+        for text in ("15 20 short", "vht 9 20 short 3", "he 11 160 3200 8", "ofdm 54", "dsss 11"):
             self.assertEqual(str(parse_rate(text)), text)
 
 
