@@ -351,7 +351,7 @@ def refusal_parts(tables: Tables) -> list[Part]:
         (FRAME / "specs/Refusals.antt", REFUSAL_NAMES, ", ".join(one.variant for one in tables.refusals)),
         (LIBRARY / "src/reply.rt", r"refused: 1 to (\d+), or 0", number),
         (HEADER, r"enum wf_code, 0 to (\d+): what", number),
-        (Path("examples/c/misuse.c"), r"NONE\[\] = \{-1, (\d+),", str(len(tables.refusals) + 1)),
+        (HEADER, r"if the code is 1 to (\d+), unless", number),
     ]
 
 

@@ -30,7 +30,7 @@ HEADING = "## Figures\n"
 JOIN = "join {} 64 100 3"
 CLASS_TIDS = {"bk": 1, "be": 0, "vi": 5, "vo": 6}
 LONGEST = 2304
-MOST_FUNCTIONS = 15
+MOST_FUNCTIONS = 9
 LARGEST_SOAK = "soak-1000000"
 
 

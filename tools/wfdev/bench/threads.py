@@ -1,6 +1,6 @@
 """Measures how many calls a second threads make that share one cell, what a turn at a gate costs, and what plain locks cost.
 
-It is no test. Without --turn and --locks it prints all figures.
+It is no test. Without --turn, --locks and --cells it prints all figures.
 
 Each run of `live` has 10,000 frames for each of 1, 2, 4 and 8 senders, and four drivers besides. Its seconds include the writing of the
 trace; a soak writes none. Each figure is the best of five runs.
@@ -13,18 +13,25 @@ the same work as the gate of wf_show_gate. The column `burst` has calls through 
 `burst / bare` compares them with the calls of one thread without a gate. A figure is the time by the clock of the median of five
 runs, less that of a run without calls, over the calls of all threads: in the fastest run the threads may have come one after another.
 A run that takes too long is cut off: a lock that spins may take long if there are more threads than processors.
+
+The cells are in threads.d/wf_show_cell, which is built without proofs: the calls of threads that give frames to one cell and reap
+them, one by one and in bursts of 16, and the same calls of one thread without a gate. The times are those of the clock, as above.
 """
 import os
 import re
 import statistics
 import subprocess
 import sys
+import tempfile
 import threading
 import time
 from collections.abc import Mapping, Sequence
 from dataclasses import dataclass
 from pathlib import Path
 
+from wfdev.build import unproved
+from wfdev.build.report import Failure
+from wfdev.harness import trials
 from wfdev.harness.script import NO_PROGRAM, Script
 from wfdev.repo import paths, programs
 
@@ -39,6 +46,9 @@ AT_GATE = (GATE, BURST)
 WAYS = (*AT_GATE, *LOCKS)
 CALLS, CALLS_OF_MANY = 1_152_000, 46_080  # for threads up to the number of processors, and above: whole bursts for each thread
 LONGEST = 10  # seconds of a run
+CELL = "wf_show_cell"
+CELL_THREADS = (2, 4)
+CELL_CALLS = 480_000
 SOAK = ["soak", "1", "1000000"]
 
 
@@ -166,6 +176,40 @@ def print_locks(counter: Path) -> None:
         print(f"| {threads} | {threads * calls} | {' | '.join(shown + ratios(cost, bare))} |", flush=True)
 
 
+def built_cells(room: Path) -> Path:
+    """Builds the program of the cells without proofs, in an empty folder."""
+    program = paths.BENCH_OUT / CELL
+    program.parent.mkdir(exist_ok=True)
+    with trials.scratch(trials.crate_of(CELL, SCRIPT.folder), trials.texts(SCRIPT.folder / CELL)) as crate:
+        try:
+            unproved.build_program(crate, program, room)
+        except Failure as why:
+            SCRIPT.fail(why)
+    return program
+
+
+def nanoseconds(program: Path, way: str, threads: int) -> float:
+    """Returns the nanoseconds of a call of the median run, by the clock, less those of a run without calls."""
+    of_each = CELL_CALLS // threads
+    shared = [] if way == BARE else [str(threads)]
+    runs = [[run(program, [way, str(calls), *shared]).seconds for calls in (of_each, 0)] for _ in range(RUNS)]
+    return statistics.median((full - empty) / (threads * of_each) * 1e9 for full, empty in runs)
+
+
+def print_cells() -> None:
+    """Prints what a call of a cell costs at a gate, one by one and in bursts, and without a gate."""
+    with tempfile.TemporaryDirectory(prefix="wf-cells-") as room:
+        program = built_cells(Path(room))
+    bare = nanoseconds(program, BARE, 1)
+    print(f"{processors()} processors, a load of {os.getloadavg()[0]:.1f} before; a cell's call without a gate takes {bare:.0f} ns")
+    print("| threads | calls | gate, ns | burst, ns | gate / bare | burst / bare |")
+    print("|---|---|---|---|---|---|")
+    for threads in CELL_THREADS:
+        gate, burst = (nanoseconds(program, way, threads) for way in AT_GATE)
+        shown = f"{gate:.0f} | {burst:.0f} | {ratio(gate, bare)} | {ratio(burst, bare)}"
+        print(f"| {threads} | {CELL_CALLS} | {shown} |", flush=True)
+
+
 def program_of(named: Path | None) -> Path:
     """Returns the program that is given, or the one that `./wf which` names."""
     found = programs.find() if named is None else None
@@ -178,6 +222,13 @@ def program_of(named: Path | None) -> Path:
     return named
 
 
+def check_counter(counter: Path) -> None:
+    """Fails if the program wf_show_gate is not there."""
+    if not counter.exists():
+        other = "tools/unproved wf_show_gate FILE builds an unproved one for --counter FILE"
+        SCRIPT.fail(f"there is no {paths.shown(counter)}: rt run in crates/wf_show_gate proves and builds it; {other}")
+
+
 def main(words: Sequence[str] | None = None) -> int:
     """Measures, prints the figures, and returns the exit status."""
     parser = SCRIPT.parser(__doc__)
@@ -185,17 +236,19 @@ def main(words: Sequence[str] | None = None) -> int:
     parser.add_argument("--counter", default=COUNTER, type=Path, help="the program wf_show_gate")
     parser.add_argument("--turn", action="store_true", help="print only what a turn costs")
     parser.add_argument("--locks", action="store_true", help="print only what locks cost")
+    parser.add_argument("--cells", action="store_true", help="print only what a call of a cell costs, which takes some minutes to build")
     asked = parser.parse_args(words)
-    is_whole = not (asked.turn or asked.locks)
+    is_whole = not (asked.turn or asked.locks or asked.cells)
     if is_whole:
         print_table(program_of(asked.program))
-    if not asked.counter.exists():
-        unproved = "tools/unproved wf_show_gate FILE builds an unproved one for --counter FILE"
-        SCRIPT.fail(f"there is no {paths.shown(asked.counter)}: rt run in crates/wf_show_gate proves and builds it; {unproved}")
+    if asked.turn or asked.locks or is_whole:
+        check_counter(asked.counter)
     if asked.turn or is_whole:
         print_turn(asked.counter)
     if asked.locks or is_whole:
         print_locks(asked.counter)
+    if asked.cells or is_whole:
+        print_cells()
     return 0
 
 

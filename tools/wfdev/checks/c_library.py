@@ -6,8 +6,9 @@ far as they are there and know the standard.
 The library is the proved one that `./wf lib` left if it is as new as the sources, else the unproved one, which is built if
 necessary. The programs are built without a warning: plainly, with the address and undefined-behaviour sanitizers, which also see
 that all memory is freed, and, if they have threads, with the thread sanitizer. c-library.d has the program that calls the readers
-on handles in memory that cannot be written, and the one that compares frames with and without octets, and bursts with single
-calls. The replay is by the program that `./wf which` names, and left out if there is none.
+on handles in memory that cannot be written, the one that compares frames with and without octets, and bursts with single calls,
+and the one that counts and refuses requests for memory. The replay is by the program that `./wf which` names, and left out if there
+is none.
 """
 import re
 import shutil
@@ -27,8 +28,9 @@ SOURCES = paths.EXAMPLES / "c"
 COMPILER = ["cc", "-std=c99", "-Wall", "-Wextra", "-Wconversion", "-pedantic", "-Werror", "-O1", "-pthread"]
 SANITIZED = ("-g", "-fsanitize=address,undefined", "-fno-sanitize-recover=all")
 THREADS = ("-g", "-fsanitize=thread")
-# bare.c decides whether there is memory
+# bare.c decides whether there is memory, and memory.c counts it.
 WRAPPED = ("-Wl,--wrap=malloc",)
+COUNTED = ("-Wl,--wrap=malloc,--wrap=realloc,--wrap=free",)
 WARNINGS = ["-Wall", "-Wextra", "-pedantic", "-Wshadow", "-Wconversion", "-Wundef", "-Werror"]
 # A standard may have an older name in an older compiler.
 C_STANDARDS = [("c89",), ("c99",), ("c11",), ("c17",), ("c23", "c2x")]
@@ -144,6 +146,8 @@ def run_programs(bench: Bench) -> None:
     print(run([str(bench.build(SCRIPT.folder / "readers.c", ["-D_DEFAULT_SOURCE"]))]), end="")
     print(run([str(bench.build(SCRIPT.folder / "bare.c", WRAPPED))]), end="")
     run([str(bench.build(SCRIPT.folder / "bare.c", (*SANITIZED, *WRAPPED), "-sanitized")), "20000", "2"])
+    print(run([str(bench.build(SCRIPT.folder / "memory.c", COUNTED))]), end="")
+    run([str(bench.build(SCRIPT.folder / "memory.c", (*SANITIZED, *COUNTED), "-sanitized"))])
     seed = 0
     for one in COMPARISONS:
         for more, kind in (((), ""), (SANITIZED, "-sanitized")):

@@ -14,6 +14,7 @@ from pathlib import Path
 from wfdev.harness.script import Script
 
 from sim.models import choose
+from sim.rates import MimoRate
 from sim.reading import read
 from sim.runs import Job, Program, run_one
 from sim.scenario import MACHINE, Flow, Scenario
@@ -41,6 +42,8 @@ class Row:
 def line(flow: Flow) -> str:
     """The station and the flood of a flow, for standard input of the program."""
     rate, loss = flow.station.rate, flow.station.loss
+    if not isinstance(rate, MimoRate):
+        raise ValueError(f"{rate}: expected a rate of HT, VHT or HE, since wifi.cc sets no others")
     weights = sum(weight for _, weight in flow.sizes)
     mbit = 8 * sum(octets * weight for octets, weight in flow.sizes) / weights / flow.every
     sizes = " ".join(f"{octets} {weight:g}" for octets, weight in flow.sizes)

@@ -83,6 +83,7 @@ ALL = [
     Check("durations"),
     Check("agreement-frames"),
     Check("sessions"),
+    Check("session-calls", quick=True),
     Check("uplinks"),
     Check("captures"),
     Check("fuzz", ("60",), ("3600",)),

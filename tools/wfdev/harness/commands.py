@@ -29,6 +29,8 @@ LINES: Mapping[int, bytes] = {
 # The output of these commands differs from run to run.
 UNSTEADY = frozenset({"live"})
 SESSION = b"ask 64 100\nto b 0\nto a 0\nend\n"
+# A frame is reaped, and another is refused.
+TRACE_END = b"reap\nenq 1 0 7 1500\nend\n"
 
 
 @dataclass(frozen=True)
@@ -60,7 +62,7 @@ def is_line_of(status: int, errors: bytes) -> bool:
 
 def all_of(program: Path, sizes: Mapping[str, Sequence[str]]) -> list[Command]:
     """Returns each command in the usage line of a program; `sizes` has the numbers that some of them need."""
-    trace = (paths.EXAMPLES / "lost-acknowledgement.trace").read_bytes()
+    trace = (paths.EXAMPLES / "lost-acknowledgement.trace").read_bytes().removesuffix(b"end\n") + TRACE_END
     inputs = {
         "replay": trace,
         "replay --pcap": trace,

@@ -1,7 +1,7 @@
 """The lines of calls: TRACE.md, the table of Lines."""
 from wfdev.model.frames import Class
 from wfdev.model.grammar import Form, NumberIn, OneOf
-from wfdev.model.rates import LONG, SHORT, Format, Rate, ht
+from wfdev.model.rates import LONG, SHORT, Dsss, Format, MimoRate, Ofdm, ht
 
 OCTET, SHORT_NUMBER, LONG_NUMBER = NumberIn(range(2**8)), NumberIn(range(2**16)), NumberIn(range(2**32))
 STATION, EXCHANGE = SHORT_NUMBER, LONG_NUMBER
@@ -20,12 +20,22 @@ def ht_values(station: int, mcs: int, mhz: int, guard: str) -> tuple[object, ...
 
 def vht_values(station: int, _: str, mcs: int, mhz: int, guard: str, streams: int) -> tuple[object, ...]:
     """Returns the values of a rate of VHT."""
-    return station, Rate(Format.VHT, mcs, mhz, NANOSECONDS[guard], streams)
+    return station, MimoRate(Format.VHT, mcs, mhz, NANOSECONDS[guard], streams)
 
 
 def he_values(station: int, _: str, mcs: int, mhz: int, guard: int, streams: int) -> tuple[object, ...]:
     """Returns the values of a rate of HE."""
-    return station, Rate(Format.HE, mcs, mhz, guard, streams)
+    return station, MimoRate(Format.HE, mcs, mhz, guard, streams)
+
+
+def ofdm_values(station: int, _: str, mbps: int) -> tuple[object, ...]:
+    """Returns the values of a rate of OFDM."""
+    return station, Ofdm(mbps)
+
+
+def dsss_values(station: int, _: str, half_mbps: int) -> tuple[object, ...]:
+    """Returns the values of a rate of DSSS."""
+    return station, Dsss(half_mbps)
 
 
 def frames_values(access: str, _: str, frames: int) -> tuple[object, ...]:
@@ -52,6 +62,7 @@ AIR = OneOf(("air",))
 WITH_FRAMES = (CLASS, OneOf(("frames",)), FRAMES)
 VHT = (STATION, OneOf(("vht",)), OCTET, OCTET, GUARD, OCTET)
 HE = (STATION, OneOf(("he",)), OCTET, OCTET, SHORT_NUMBER, OCTET)
+OFDM, DSSS = (STATION, OneOf(("ofdm",)), OCTET), (STATION, OneOf(("dsss",)), OCTET)
 
 # The forms of each line; a line has the first that is meant by its words.
 FORMS = {
@@ -60,6 +71,8 @@ FORMS = {
     "rate": [
         Form(VHT, marks=((1, "vht"),), values=vht_values),
         Form(HE, marks=((1, "he"),), values=he_values),
+        Form(OFDM, marks=((1, "ofdm"),), values=ofdm_values),
+        Form(DSSS, marks=((1, "dsss"),), values=dsss_values),
         Form((STATION, OCTET, OCTET, GUARD), values=ht_values),
     ],
     "tick": [Form((LONG_NUMBER,))],

@@ -30,6 +30,8 @@ from wfdev.model.rates import (
     Control,
     Rate,
     control_mbps,
+    is_single,
+    is_slow,
     longest_computed,
     octets_alone,
     octets_of,
@@ -134,7 +136,8 @@ class Machine:
         refuse("bad-weight", not 1 <= weight <= MOST_WEIGHT)
         self.live(station).weight = weight
         for access, rotation in self.rotations.items():
-            covered = (self.settings.inflight - 1) * longest_computed(self.cap(access), self.settings.answers)
+            longest = longest_computed(self.cap(access), self.settings.answers, self.settings.legacy)
+            covered = (self.settings.inflight - 1) * longest
             most = self.quantum(station) + min(self.pending(station, access), covered)
             rotation.deficits[station] = min(rotation.deficits[station], most)
         self.list_ready(station)
@@ -183,6 +186,7 @@ class Machine:
         refuse("offloaded", held.offloaded)
         refuse("agreed", held.modes[tid] is Mode.AGREED)
         refuse("held", held.modes[tid] is Mode.HELD)
+        refuse("legacy", is_single(held.rate))
         held.modes[tid] = Mode.HELD
         self.list_ready(station)
         return Number("held", held.sessions[tid].next % NUMBERS)
@@ -232,8 +236,10 @@ class Machine:
     def rate(self, station: int, rate: Rate) -> Answer:
         """A station is sent to at this rate from now on."""
         self.numbered(station)
-        refuse("bad-rate", not rate.exists())
-        self.live(station).rate = rate
+        refuse("bad-rate", not rate.exists() or rate.legacy > self.settings.legacy)
+        held = self.live(station)
+        refuse("agreed", is_single(rate) and any(mode is not Mode.PLAIN for mode in held.modes))
+        held.rate = rate
         self.list_ready(station)
         return Word("set")
 
@@ -397,9 +403,10 @@ class Machine:
             exchange = Exchange(held.number, tid, control.request_charge, [], session.start)
         else:
             octets = octets_taken(held.rate, held.exponent, held.ampdu)
-            numbers = self.aggregate(held, tid, Bounds(1 if held.asleep else most, octets, held.rate, cap, overhead))
+            agg = 1 if held.asleep or is_single(held.rate) else most
+            numbers = self.aggregate(held, tid, Bounds(agg, octets, held.rate, cap, overhead))
             lengths = [session.length(one) for one in numbers]
-            if held.is_plain(tid):
+            if held.is_plain(tid) or is_single(held.rate):
                 charge = held.rate.time(octets_alone(held.rate, lengths[0], overhead)) + control.ack_time
             else:
                 charge = held.rate.time(octets_of(lengths, overhead)) + control.answer_time
@@ -436,7 +443,7 @@ class Machine:
 
     def take(self, held: Station, tid: int) -> Frame:
         """Takes the next frame of a TID."""
-        parameters = SLOW if held.rate.is_slow else USUAL
+        parameters = SLOW if is_slow(held.rate) else USUAL
         frame, dropped = self.queues.take((held.number, tid), self.now, parameters)
         self.finish(dropped, Fate.CODEL)
         return frame

@@ -2,6 +2,7 @@
 import enum
 from collections.abc import Sequence
 from dataclasses import dataclass
+from typing import ClassVar
 
 
 class Format(enum.Enum):
@@ -37,9 +38,11 @@ ENCODERS = {
     (160, 6, 7): 8, (160, 7, 4): 6, (160, 7, 7): 9, (160, 7, 8): 12, (160, 7, 9): 12, (160, 8, 5): 8,
     (160, 8, 8): 12,
 }  # fmt: skip
+OFDM_RATES, DSSS_RATES = (6, 9, 12, 18, 24, 36, 48, 54), (2, 4, 11, 22)  # Mbit/s, half Mbit/s
 SLOW_BELOW = 12_000  # kbit/s
-LONGEST_ALONE = 3000  # microseconds
+LONGEST_ALONE = (3000, 3200, 19_200)  # microseconds, by the setting `legacy`
 FASTEST_CONTROL, CONTROL_RATES = 24, (24, 12, 6)  # Mbit/s
+SLOWEST_DSSS, FASTEST_DSSS = 1, 2  # Mbit/s, for control frames
 DELIMITER, HEADER, CHECK = 4, 26, 4
 SIFS = 16
 NARROW_WINDOW = 64
@@ -51,15 +54,68 @@ def up(number: int, by: int) -> int:
     return -(-number // by)
 
 
+def ofdm_time(mbps: int, octets: int) -> int:
+    """Returns the microseconds of a frame that is sent with OFDM."""
+    return 20 + 4 * up(8 * octets + 22, 4 * mbps)
+
+
+def dsss_time(half_mbps: int, octets: int) -> int:
+    """Returns the microseconds of a frame that is sent with DSSS and its long preamble."""
+    return 192 + up(2 * 8 * octets, half_mbps)
+
+
 @dataclass(frozen=True)
-class Rate:
-    """A rate, or numbers that are none: the width in MHz, the guard interval in nanoseconds."""
+class Ofdm:
+    """A rate of OFDM, or a number that is none."""
+
+    mbps: int
+    legacy: ClassVar[int] = 1
+
+    def exists(self) -> bool:
+        """Returns whether the number is a rate."""
+        return self.mbps in OFDM_RATES
+
+    @property
+    def kbps(self) -> int:
+        """The kbit/s of the rate."""
+        return 1000 * self.mbps
+
+    def time(self, octets: int) -> int:
+        """Returns the microseconds that a frame of this many octets takes."""
+        return ofdm_time(self.mbps, octets)
+
+
+@dataclass(frozen=True)
+class Dsss:
+    """A rate of DSSS, or a number that is none."""
+
+    half_mbps: int
+    legacy: ClassVar[int] = 2
+
+    def exists(self) -> bool:
+        """Returns whether the number is a rate."""
+        return self.half_mbps in DSSS_RATES
+
+    @property
+    def kbps(self) -> int:
+        """The kbit/s of the rate."""
+        return 500 * self.half_mbps
+
+    def time(self, octets: int) -> int:
+        """Returns the microseconds that a frame of this many octets takes."""
+        return dsss_time(self.half_mbps, octets)
+
+
+@dataclass(frozen=True)
+class MimoRate:
+    """A rate of HT, VHT or HE, or numbers that are none: the width in MHz, the guard interval in nanoseconds."""
 
     form: Format
     mcs: int
     mhz: int
     guard: int
     streams: int
+    legacy: ClassVar[int] = 0
 
     def exists(self) -> bool:
         """Returns whether the numbers are a rate of the format."""
@@ -91,11 +147,6 @@ class Rate:
         """The kbit/s of the rate."""
         return 10_000 * self.bits // self.symbol
 
-    @property
-    def is_slow(self) -> bool:
-        """Whether CoDel has the parameters of slow rates."""
-        return self.kbps < SLOW_BELOW
-
     def time(self, octets: int) -> int:
         """Returns the microseconds that an aggregate of this many octets takes."""
         symbols = up(8 * octets + 16 + 6 * self.encoders, self.bits)
@@ -106,12 +157,30 @@ class Rate:
         return before + 4 * training + 4 * up(self.symbol * symbols, 40)
 
 
-def ht(mcs: int, mhz: int, guard: int) -> Rate:
+Rate = MimoRate | Ofdm | Dsss
+
+
+def ht(mcs: int, mhz: int, guard: int) -> MimoRate:
     """Returns a rate of HT, whose streams follow from its MCS."""
-    return Rate(Format.HT, mcs, mhz, guard, 1 if mcs < 8 else 2)
+    return MimoRate(Format.HT, mcs, mhz, guard, 1 if mcs < 8 else 2)
 
 
 LOWEST = ht(0, 20, LONG)
+
+
+def is_slow(rate: Rate) -> bool:
+    """Returns whether CoDel has the parameters of slow rates."""
+    return rate.kbps < SLOW_BELOW
+
+
+def is_single(rate: Rate) -> bool:
+    """Returns whether one exchange sends one frame, which an Ack answers."""
+    return rate.legacy > 0
+
+
+def has_aggregates(rate: Rate) -> bool:
+    """Returns whether each frame is in an aggregate, as at VHT and HE."""
+    return isinstance(rate, MimoRate) and rate.form is not Format.HT
 
 
 def octets_of(bodies: Sequence[int], overhead: int = 0) -> int:
@@ -123,13 +192,13 @@ def octets_of(bodies: Sequence[int], overhead: int = 0) -> int:
 
 
 def octets_alone(rate: Rate, body: int, overhead: int = 0) -> int:
-    """Returns the octets of a frame without an agreement. At a rate of HT it has no delimiter."""
-    return octets_of([body], overhead) - (DELIMITER if rate.form is Format.HT else 0)
+    """Returns the octets of a frame that an Ack answers. It has a delimiter only at VHT and HE."""
+    return octets_of([body], overhead) - (0 if has_aggregates(rate) else DELIMITER)
 
 
 def octets_taken(rate: Rate, exponent: int, stated: int | None) -> int:
     """Returns the most octets of an aggregate, by the exponent or, at VHT and HE, as the station stated."""
-    if rate.form is Format.HT:
+    if not has_aggregates(rate):
         return (1 << 13 + exponent) - 1
     return (1 << 17 + exponent) - 1 if stated is None else stated
 
@@ -145,9 +214,9 @@ class Bounds:
     overhead: int = 0
 
     def fits(self, bodies: Sequence[int]) -> bool:
-        """Returns whether bodies of these lengths fit. One frame alone has at least 3000 microseconds."""
+        """Returns whether bodies of these lengths fit. One frame alone always fits."""
         octets = octets_of(bodies, self.overhead)
-        cap = max(self.cap, LONGEST_ALONE) if len(bodies) <= 1 else self.cap
+        cap = max(self.cap, LONGEST_ALONE[self.rate.legacy]) if len(bodies) <= 1 else self.cap
         return len(bodies) <= self.agg and octets <= self.octets and self.rate.time(octets) <= cap
 
 
@@ -160,7 +229,8 @@ class Control:
 
     def time(self, octets: int) -> int:
         """Returns the microseconds of a control frame with these octets before its check sequence."""
-        return 20 + 4 * up(8 * (octets + CHECK) + 22, 4 * self.mbps)
+        whole = octets + CHECK
+        return dsss_time(2 * self.mbps, whole) if self.mbps <= FASTEST_DSSS else ofdm_time(self.mbps, whole)
 
     @property
     def answer_time(self) -> int:
@@ -180,11 +250,14 @@ class Control:
 
 def control_mbps(rate: Rate, answers: int) -> int:
     """Returns the Mbit/s of control frames: with the setting `answers`, not faster than data if that can be."""
-    slower = [mbps for mbps in CONTROL_RATES if 1000 * mbps <= rate.kbps]
-    return FASTEST_CONTROL if answers == 0 else next(iter(slower), CONTROL_RATES[-1])
+    if answers == 0:
+        return FASTEST_CONTROL
+    rates = (FASTEST_DSSS, SLOWEST_DSSS) if isinstance(rate, Dsss) else CONTROL_RATES
+    return next((mbps for mbps in rates if 1000 * mbps <= rate.kbps), rates[-1])
 
 
-def longest_computed(cap: int, answers: int) -> int:
-    """Returns the greatest computed charge of an exchange, by the longest data of an aggregate and `answers`."""
-    slowest = CONTROL_RATES[-1] if answers else FASTEST_CONTROL
-    return max(cap, LONGEST_ALONE) + Control(slowest, True).answer_time
+def longest_computed(cap: int, answers: int, legacy: int) -> int:
+    """Returns the greatest computed charge of an exchange, by the longest data of an aggregate and the settings."""
+    slowest = Control(CONTROL_RATES[-1] if answers else FASTEST_CONTROL, True)
+    answer = Control(SLOWEST_DSSS, False).ack_time if answers and legacy == Dsss.legacy else slowest.answer_time
+    return max(cap, LONGEST_ALONE[legacy]) + answer

@@ -37,6 +37,7 @@ class Settings:
     cap_vo: int = setting(0, 0, 5400)
     answers: int = setting(0, 0, 1)
     credits: int = setting(0, 0, 1)
+    legacy: int = setting(0, 0, 2)
     # end settings
 
 

@@ -4,10 +4,11 @@ import unittest
 from collections.abc import Callable
 
 from wfdev.checks import worked
+from wfdev.checks.durations import legacy
 from wfdev.checks.fuzz import scripts, subjects
 from wfdev.checks.fuzz.subjects import Ended
 from wfdev.model.frames import Frame
-from wfdev.model.rates import LOWEST, Bounds, Format, Rate, octets_alone
+from wfdev.model.rates import LOWEST, Bounds, Format, MimoRate, Ofdm, octets_alone
 from wfdev.model.session import End, Session
 from wfdev.model.settings import RANGES, Settings
 from wfdev.model.stations import Mode, Station
@@ -52,11 +53,15 @@ class Rates(unittest.TestCase):
         for path in sorted((paths.CHECKS / "durations.d").glob("*.csv")):
             for row in csv.DictReader(paths.read(path).splitlines()):
                 mcs, mhz, guard, streams = (int(row[name]) for name in ("mcs", "mhz", "guard_ns", "streams"))
-                rate = Rate(Format(row["format"]), mcs, mhz, guard, streams)
+                rate = MimoRate(Format(row["format"]), mcs, mhz, guard, streams)
                 if rate.form is not Format.HT or mcs <= MOST_HT_MCS:
                     self.assertTrue(rate.exists(), rate)
                     self.assertEqual(rate.kbps, int(row["kbps"]), rate)
                     self.assertEqual(rate.time(int(row["octets"])), int(row["us"]), rate)
+
+    def test_times_of_ofdm_and_dsss_are_those_of_ns3(self) -> None:
+        self.assertEqual([fault for row in legacy.read() for fault in legacy.faults(row)], [])
+        self.assertFalse(Ofdm(7).exists())
 
     def test_a_frame_of_any_length_fits_alone(self) -> None:
         self.assertTrue(Bounds(agg=1, octets=8191, rate=LOWEST, cap=3000).fits([2304]))
@@ -80,7 +85,7 @@ class Agreements(unittest.TestCase):
         self.assertEqual(held.receivers[0].data(4096, 7), [7])
 
     def test_the_octets_of_a_frame_alone(self) -> None:
-        rates = (LOWEST, Rate(Format.VHT, 0, 20, 800, 1), Rate(Format.HE, 0, 20, 800, 1))
+        rates = (LOWEST, MimoRate(Format.VHT, 0, 20, 800, 1), MimoRate(Format.HE, 0, 20, 800, 1))
         self.assertEqual([octets_alone(rate, 100, 8) for rate in rates], [138, 142, 142])
 
 

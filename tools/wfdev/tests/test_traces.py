@@ -235,7 +235,7 @@ class Follows(unittest.TestCase):
     def test_the_frames_of_the_rows_with_agreements(self) -> None:
         for path in sorted((paths.CHECKS / "worked.d").glob("*.in")):
             octets = path.read_bytes()
-            if re.search(rb"^(plain|hold|begin|free|cease) \d", octets, re.M) and not path.stem.startswith("fault-"):
+            if re.search(rb"^(plain|hold|begin|free|cease) \d", octets, re.M) and not path.stem.startswith(("fault-", "uplink-")):
                 player, book = text.Player(), Ledger({})
                 for line in octets.splitlines():
                     answer = player.play(line)

@@ -38,6 +38,8 @@ RATES: dict[str, tuple[str, ...]] = {
     "ht": ("station", "mcs", "mhz", "short_guard"),
     "vht": ("station", "mcs", "mhz", "short_guard", "streams"),
     "he": ("station", "mcs", "mhz", "guard", "streams"),
+    "ofdm": ("station", "speed"),
+    "dsss": ("station", "speed"),
 }
 WORDS: dict[str, dict[str, Value]] = {
     "heard": {"heard": True, "lost": False},
@@ -75,9 +77,8 @@ def named(names: tuple[str, ...], words: list[str]) -> dict[str, Value]:
 
 
 def rate_fields(words: list[str]) -> dict[str, Value]:
-    """Returns the arguments of a rate: a second word `vht` or `he` names the format, which is otherwise
-    HT."""
-    form = words[1] if len(words) > 1 and words[1] in ("vht", "he") else "ht"
+    """Returns the arguments of a rate: its second word names the format, which is otherwise HT."""
+    form = words[1] if len(words) > 1 and words[1] in RATES else "ht"
     rest = words if form == "ht" else [words[0], *words[2:]]
     return {**named(RATES[form], rest), "form": form}
 

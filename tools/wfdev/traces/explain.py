@@ -109,6 +109,8 @@ def transmission_of(call: Call) -> str:
 def rate_of(call: Call) -> str:
     """Returns a rate in words."""
     form = call.word("form")
+    if form in ("ofdm", "dsss"):
+        return f"{form.upper()}, {call.number('speed') / (1 if form == 'ofdm' else 2):g} Mbit/s"
     guard = f"{call.number('guard')} ns" if form == "he" else "short" if call.fields[
         "short_guard"
     ] else "long"

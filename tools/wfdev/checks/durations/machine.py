@@ -3,6 +3,7 @@ import itertools
 import subprocess
 from collections.abc import Iterable, Iterator, Sequence
 from pathlib import Path
+from typing import Protocol
 
 from sim.rates import SIFS, WIDE_BLOCK_ACK, padded, parse_rate, subframe
 from wfdev.checks.durations.rows import SCRIPT, Row
@@ -25,15 +26,30 @@ def small_program(lines: Iterable[str]) -> list[str]:
     return done.stdout.splitlines()
 
 
-def unlike_small_program(rows: Sequence[Row]) -> Iterator[str]:
+class Asked(Protocol):
+    """A row for the small program."""
+
+    @property
+    def place(self) -> str:
+        """Its file and line."""
+
+    @property
+    def words(self) -> str:
+        """The line that the small program reads."""
+
+    @property
+    def wanted(self) -> str:
+        """The answer that it has to give."""
+
+
+def unlike_small_program(rows: Sequence[Asked]) -> Iterator[str]:
     """Yields the rows on which the small program answers something else."""
     answers = small_program(row.words for row in rows)
     if len(answers) != len(rows):
         SCRIPT.fail(f"the small program gives {len(answers)} answers to {len(rows)} rows")
     for row, answer in zip(rows, answers, strict=True):
-        wanted = f"{row.kbps} {row.us}" if row.is_of_machine else "none"
-        if answer != wanted:
-            yield f"{row.place}: the small program answers {answer}; expected {wanted}"
+        if answer != row.wanted:
+            yield f"{row.place}: the small program answers {answer}; expected {row.wanted}"
 
 
 def bodies_of(octets: int) -> list[int] | None:

@@ -3,7 +3,7 @@ import csv
 from collections.abc import Iterator
 from dataclasses import dataclass
 
-from sim.rates import TRAINING_FIELDS, Rate
+from sim.rates import TRAINING_FIELDS, MimoRate
 from wfdev.harness.script import Script
 
 SCRIPT = Script("durations")
@@ -19,7 +19,7 @@ class Row:
     """
 
     place: str
-    rate: Rate
+    rate: MimoRate
     octets: int
     kbps: int
     us: int
@@ -38,13 +38,18 @@ class Row:
         """Whether the machine has the rate."""
         return self.rate.format != "ht" or self.rate.mcs <= GREATEST_HT_MCS
 
+    @property
+    def wanted(self) -> str:
+        """The answer that the small program has to give."""
+        return f"{self.kbps} {self.us}" if self.is_of_machine else "none"
+
 
 def row_of(place: str, cells: dict[str, str]) -> Row:
     """Returns a row of a file."""
     number = {name: int(text) for name, text in cells.items() if text.isdecimal()}
     return Row(
         place=place,
-        rate=Rate(cells["format"], number["mcs"], number["mhz"], number["guard_ns"], number["streams"]),
+        rate=MimoRate(cells["format"], number["mcs"], number["mhz"], number["guard_ns"], number["streams"]),
         octets=number["octets"],
         kbps=number["kbps"],
         us=number["us"],
@@ -62,13 +67,13 @@ def read() -> Iterator[Row]:
                 yield row_of(f"{path.name}:{number}", cells)
 
 
-def symbols_with_fractions(rate: Rate, octets: int) -> int:
+def symbols_with_fractions(rate: MimoRate, octets: int) -> int:
     """Returns how many symbols there are if a fraction of a bit is kept."""
     symbols: int = -(-rate.payload(octets) * 12 // rate.bits_of_all_twelves)
     return symbols
 
 
-def causes(rate: Rate, octets: int) -> dict[str, int]:
+def causes(rate: MimoRate, octets: int) -> dict[str, int]:
     """Returns by how many nanoseconds each cause makes the time longer than ns-3's."""
     found: dict[str, int] = {}
     payload = rate.symbol * rate.symbols(octets)

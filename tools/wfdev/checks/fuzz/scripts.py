@@ -13,7 +13,7 @@ OCTETS = re.compile(r"(?:[0-9a-f]{2}){1,50}")
 
 @dataclass(frozen=True)
 class Hexadecimal(Argument):
-    """The octets of a frame, as hexadecimal digits."""
+    """The octets of a frame or a request, as hexadecimal digits."""
 
     def fault(self, word: str) -> str | None:
         """Returns the kind of the word's fault, if it has one."""
@@ -27,9 +27,11 @@ class Hexadecimal(Argument):
 STATION = NumberIn(range(65_536))
 UPLINK_LINES = {
     "open": [Form((STATION, STATION, STATION))],
+    "plain": [Form((STATION,))],
     "rate": [Form((STATION, NumberIn(range(16)), OneOf(("20", "40")), OneOf(("long", "short"))))],
     "tick": [Form((NumberIn(range(10_000_001)),))],
     "frame": [Form((Hexadecimal(),))],
+    "bar": [Form((Hexadecimal(),))],
     "end": [Form()],
 }
 

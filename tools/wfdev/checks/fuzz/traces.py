@@ -9,7 +9,7 @@ from wfdev.model.codel import SLOW, USUAL
 from wfdev.model.frames import CLASS_OF, NUMBERS, Class
 from wfdev.model.grammar import LONGEST_LINE, Argument, NumberIn, OneOf
 from wfdev.model.machine import MOST_AIR, MOST_TICK, Machine
-from wfdev.model.rates import CARRIERS, MOST_MCS, SYMBOL, Format
+from wfdev.model.rates import CARRIERS, DSSS_RATES, MOST_MCS, OFDM_RATES, SYMBOL, Format
 from wfdev.model.settings import RANGES
 from wfdev.model.session import FAR
 from wfdev.model.stations import Exchange, Mode
@@ -35,6 +35,7 @@ LIKELY = {
     "cap_vo": (1, 300, 1000),
     "answers": (1,),
     "credits": (1,),
+    "legacy": (1, 2, 2),
 }
 # How often a setting is in a head, if not three times in ten. With little room most calls do nothing.
 CHANCE = {"stations": 0.6, "room": 0.06, "limit": 0.25, "calls": 0.0, "pending": 0.6}
@@ -72,6 +73,9 @@ def head(draw: random.Random, chances: Mapping[str, float]) -> str:
 
 def rate_words(draw: random.Random) -> str:
     """Returns the words of a rate, or of numbers that are none."""
+    if draw.random() < 0.3:
+        name, speeds = draw.choice((("ofdm", OFDM_RATES), ("dsss", DSSS_RATES)))
+        return f"{name} {draw.choice(speeds) if draw.random() < 0.9 else draw.choice((0, 1, 7, 255))}"
     form = draw.choice(list(Format))
     is_good = draw.random() < 0.9
     mcs = draw.choice((0, 0, 7, draw.randint(0, MOST_MCS[form]), MOST_MCS[form] + (not is_good)))

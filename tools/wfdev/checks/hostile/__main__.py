@@ -1,8 +1,8 @@
 """Runs the built program against a hostile outside, and prints a table.
 
-Each command runs with standard output full, closed early, a terminal and a full pipe that does not block; with standard input
-closed, a directory, given octet by octet, by a pipe that does not block, cut after each octet, and without an end; with a signal
-in mid-run; and with limits of memory (`ulimit -v`), in steps of 2 kB around the least that is enough, and of stack
+Each command runs with standard output full, closed early, a terminal, a full pipe and a small one that do not block; with standard input
+closed, a directory, given octet by octet, by a pipe that does not block, cut after each octet, without an end, and open after the
+line `end`; with a signal in mid-run; and with limits of memory (`ulimit -v`), in steps of 2 kB around the least that is enough, and of stack
 (`ulimit -s`): 128 kB and more are enough, and with at most 96 kB the system ends the program before it reads. A run is good if its status and its line on
 standard error are those that docs/TRACE.md gives, and the output is a prefix of the whole text.
 """
@@ -31,6 +31,10 @@ def main(words: Sequence[str] | None = None) -> int:
             continue
         subject = subject_of(program, command)
         kinds = [*outside.ALWAYS, *(outside.WITH_INPUT if subject.reads else [])]
+        if command.name in outside.WITH_END:
+            kinds.append(outside.input_open_after_its_end)
+        if command.name in outside.WITH_ANSWERS:
+            kinds.append(outside.output_in_pieces)
         for kind in [*([] if asked.limits else kinds), *limits.ALL]:
             case = kind(subject)
             bad += case.bad

@@ -1,9 +1,11 @@
 """Outputs and inputs that fail, are slow or have no end, and signals."""
 import contextlib
+import fcntl
 import os
 import pty
 import signal
 import subprocess
+import threading
 import time
 from collections.abc import Callable
 
@@ -15,6 +17,8 @@ PAUSE = 0.05
 CUT_OFF = 2  # seconds
 TERMINAL_PIECE = 65536
 PIECE = 512
+PIPE = 4096
+MANY_REAPS = b"cell\n" + 4 * PIPE * b"reap\n" + b"end\n"
 
 
 def output_full(subject: Subject) -> Case:
@@ -91,6 +95,20 @@ def input_octet_by_octet(subject: Subject) -> Case:
     return case
 
 
+def input_open_after_its_end(subject: Subject) -> Case:
+    """The input stays open after the line `end`, and the command ends all the same."""
+    case = Case(subject, "standard input open after `end`")
+    child = begin(subject.words)
+    give(child, subject.given)
+    assert child.stdout is not None and child.stderr is not None
+    limit = threading.Timer(SECONDS, child.kill)
+    limit.start()
+    written, errors = child.stdout.read(), child.stderr.read()
+    case.see(Ended(child.wait(timeout=SECONDS), errors, written), {Status.DONE})
+    limit.cancel()
+    return case
+
+
 def input_that_does_not_block(subject: Subject) -> Case:
     """Standard input is a pipe whose reads fail while it is empty (EAGAIN), and comes in two pieces."""
     case = Case(subject, "standard input that does not block")
@@ -128,6 +146,27 @@ def output_that_does_not_block(subject: Subject) -> Case:
         written = file.read()[filled:]
     errors = child.stderr.read()
     case.see(Ended(child.wait(timeout=SECONDS), errors, written), {Status.DONE})
+    return case
+
+
+def output_in_pieces(subject: Subject) -> Case:
+    """Standard output is a small pipe that does not block, so a long text is written in pieces."""
+    case = Case(subject, "standard output that takes pieces")
+    whole = run(subject.words, MANY_REAPS).written
+    theirs, ours = os.pipe()
+    fcntl.fcntl(ours, fcntl.F_SETPIPE_SZ, PIPE)
+    os.set_blocking(ours, False)
+    child = subprocess.Popen(subject.words, stdin=subprocess.PIPE, stdout=ours, stderr=subprocess.PIPE)
+    os.close(ours)
+    assert child.stdin is not None and child.stderr is not None
+    giver = threading.Thread(target=give, args=(child, MANY_REAPS))
+    giver.start()
+    with open(theirs, "rb") as file:
+        written = file.read()
+    giver.join()
+    child.stdin.close()
+    errors = child.stderr.read()
+    case.see(Ended(child.wait(timeout=SECONDS), errors, written), {Status.DONE}, whole)
     return case
 
 
@@ -229,6 +268,10 @@ ALWAYS: list[Callable[[Subject], Case]] = [
     signal_in_mid_run,
     stopped_and_continued,
 ]
+# The commands whose answers are written together.
+WITH_ANSWERS = frozenset({"replay"})
+# The commands whose input has a line that is the last.
+WITH_END = frozenset({"replay", "replay --pcap", "session", "uplink"})
 WITH_INPUT: list[Callable[[Subject], Case]] = [
     input_octet_by_octet,
     input_that_does_not_block,

@@ -1,7 +1,7 @@
 """Plays a generated script on `wf uplink`, and compares each answer with that of a model written independently of it.
 
-Frames are lost, repeated, overtake one another, jump past the window, go past number 4095, or are hostile octets; ticks end
-just before a wait does, and at its end.
+Frames are lost, repeated, overtake one another, jump past the window, go past number 4095, or are hostile octets; requests move
+the window, or come late; ticks end just before a wait does, and at its end. Some stations have no agreement.
 """
 import random
 import subprocess
@@ -16,6 +16,10 @@ from wfdev.harness.script import Difference, Script, expect
 SCRIPT = Script("uplinks")
 MOST_TICK = 10_000_000
 OPENED = [(0, 64, 0), (1, 4, 10), (255, 256, 4090)]
+PLAIN = [3, 4]
+STATIONS = [0, 1, 2, 3, 4, 255]
+TIDS = [0, 0, 3, 7]
+RETRY = 8
 JUMPS = (2046, 2047, 2048, 2049, -2048, -2047)
 
 
@@ -51,14 +55,35 @@ class Generator:
             newest += self.draw.choice(JUMPS)
         return newest % NUMBERS
 
-    def octets(self) -> bytes:
-        """Returns a frame, which may be damaged."""
-        key = self.draw.choice([0, 1, 2, 255]), self.draw.choice([0, 0, 3, 7])
+    def frame(self) -> Event:
+        """Returns a line `frame`."""
+        key = self.draw.choice(STATIONS), self.draw.choice(TIDS)
         frame = bytearray.fromhex("88013000" "020000000000" "02000001" "0000" "020000020000" "0000" "0000" "00")
         frame[14:16] = key[0].to_bytes(2, "big")
         frame[22:24] = (16 * self.number(key)).to_bytes(2, "little")
         frame[24] = key[1]
+        frame[1] |= self.draw.choice([0, RETRY])
         frame += bytes(self.draw.choice([0, 0, 0, 5, 23]))
+        octets = self.damaged(frame)
+        return Event(f"frame {octets.hex()}", self.model.frame(octets))
+
+    def start(self, key: tuple[int, int]) -> int:
+        """Returns the start of a request: mostly one of the last numbers or the next, sometimes one far away."""
+        near = self.draw.random() < 0.95
+        return (self.sent.get(key, 0) + self.draw.choice(range(-8, 3) if near else JUMPS)) % NUMBERS
+
+    def bar(self) -> Event:
+        """Returns a line `bar`."""
+        key = self.draw.choice(STATIONS), self.draw.choice(TIDS)
+        request = bytearray.fromhex("84000000" "020000000000" "02000001" "0000" "0400" "0000")
+        request[14:16] = key[0].to_bytes(2, "big")
+        request[17] = key[1] << 4
+        request[18:20] = (16 * self.start(key)).to_bytes(2, "little")
+        octets = self.damaged(request)
+        return Event(f"bar {octets.hex()}", self.model.bar(octets))
+
+    def damaged(self, frame: bytearray) -> bytes:
+        """Returns a frame, which may be damaged."""
         if self.draw.random() < 0.04:
             frame[self.draw.randrange(len(frame))] ^= 1 << self.draw.randrange(8)
         if self.draw.random() < 0.02:
@@ -80,9 +105,14 @@ class Generator:
         start = self.draw.choice([0, 10, 4090, 4095, 4096])
         return Event(f"open {station} {window} {start}", self.model.open(station, window, start))
 
+    def plain(self) -> Event:
+        """Returns a line `plain`, which may be refused."""
+        station = self.draw.choice([0, 2, 3, 4, 5, 255, 256])
+        return Event(f"plain {station}", self.model.plain(station))
+
     def rate(self) -> Event:
         """Returns a line `rate`, which may be refused."""
-        station = self.draw.choice([0, 1, 2, 255, 7])
+        station = self.draw.choice([0, 1, 2, 3, 255, 7])
         rate = Rate(self.draw.randint(0, 15), self.draw.choice([20, 40]), self.draw.random() < 0.5)
         return Event(f"rate {station} {rate}", self.model.rate(station, rate))
 
@@ -93,16 +123,20 @@ class Generator:
             return self.open()
         if kind < 0.04:
             return self.rate()
+        if kind < 0.05:
+            return self.plain()
         if kind < 0.15:
             return self.tick()
-        octets = self.octets()
-        return Event(f"frame {octets.hex()}", self.model.frame(octets))
+        if kind < 0.25:
+            return self.bar()
+        return self.frame()
 
 
 def script(seed: int, count: int) -> list[Event]:
     """Returns a script of this many events, after those that open stations, with its end."""
     made = Generator(random.Random(seed))
     events = [Event(f"open {station} {window} {start}", made.model.open(station, window, start)) for station, window, start in OPENED]
+    events += [Event(f"plain {station}", made.model.plain(station)) for station in PLAIN]
     events += [made.event() for _ in range(count)]
     return [*events, Event("end", made.model.totals())]
 
