@@ -47,6 +47,7 @@ static struct wf_settings some_settings(uint32_t calls) {
   settings.room = 60;
   settings.limit = 40;
   settings.charge = 5000;
+  settings.legacy = 2;
   settings.calls = calls;
   return settings;
 }
@@ -78,6 +79,8 @@ static struct wf_call some_call(void) {
   call.weight = (uint8_t)(1 + below(4));
   call.mcs = (uint8_t)below(8);
   call.mhz = 20;
+  call.form = (uint8_t)(below(3) ? WF_FORM_HT : WF_FORM_OFDM + below(2));
+  call.speed = (uint8_t)(call.form == WF_FORM_OFDM ? 6 << below(4) : 2 << below(2));
   call.by = below(3000);
   call.tid = (uint8_t)below(8 + (below(20) == 0));
   call.flow = below(40);
@@ -120,13 +123,22 @@ static int32_t reap(struct wf_path *path, struct wf_reply *reply) {
   return code;
 }
 
+/* Sets a rate of HT, OFDM or DSSS. */
+static int32_t rate(struct wf_path *path, const struct wf_call *call, struct wf_reply *reply) {
+  switch (call->form) {
+    case WF_FORM_OFDM: return wf_path_rate_ofdm(path, call->station, call->speed, reply);
+    case WF_FORM_DSSS: return wf_path_rate_dsss(path, call->station, call->speed, reply);
+    default: return wf_path_rate_ht(path, call->station, call->mcs, call->mhz, call->short_guard, reply);
+  }
+}
+
 /* Makes a call of a path by its own function. */
 static int32_t single(struct wf_path *path, const struct wf_call *call, int is_bare, struct wf_reply *reply) {
   static struct wf_frames frames;
   switch (call->kind) {
     case WF_CALL_JOIN: return wf_path_join(path, call->station, call->window, call->start, call->exponent, call->weight, reply);
     case WF_CALL_LEAVE: return wf_path_leave(path, call->station, reply);
-    case WF_CALL_RATE: return wf_path_rate_ht(path, call->station, call->mcs, call->mhz, call->short_guard, reply);
+    case WF_CALL_RATE: return rate(path, call, reply);
     case WF_CALL_TICK: return wf_path_tick(path, call->by, reply);
     case WF_CALL_ENQUEUE: return enqueue(path, call, is_bare, reply);
     case WF_CALL_PULL: return wf_path_pull_limited(path, call->class_, call->frames, call->air, reply, &frames);
