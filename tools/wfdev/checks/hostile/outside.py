@@ -156,7 +156,7 @@ def output_in_pieces(subject: Subject) -> Case:
     theirs, ours = os.pipe()
     fcntl.fcntl(ours, fcntl.F_SETPIPE_SZ, PIPE)
     os.set_blocking(ours, False)
-    child = subprocess.Popen(subject.words, stdin=subprocess.PIPE, stdout=ours, stderr=subprocess.PIPE)
+    child = subprocess.Popen(subject.words, stdin=subprocess.PIPE, stdout=ours, stderr=subprocess.PIPE, bufsize=0)
     os.close(ours)
     assert child.stdin is not None and child.stderr is not None
     giver = threading.Thread(target=give, args=(child, MANY_REAPS))
