@@ -110,9 +110,9 @@ fast_gives =
 
 pub fast_drops_at_their_times :
     let end = played fast new_codel (frames_from 0 40) (map (λ it. it.0) fast_gives) in
-    (end.given ≡ fast_gives) × (end.dropped ≡ 2 ∷ 5 ∷ 8 ∷ 11 ∷ 14 ∷ [])
+    (end.given ≡ fast_gives) × ((end.dropped ≡ 2 ∷ 5 ∷ 8 ∷ 11 ∷ 14 ∷ []) × (end.state.dropped ≡ 5))
 unfolding a_dequeue
-fast_drops_at_their_times = (refl, refl)
+fast_drops_at_their_times = (refl, (refl, refl))
 
 abbrev pub slow_gives : List (ℕ × ℕ)
 slow_gives =
@@ -145,7 +145,8 @@ last_frames_stay = (refl, (refl, refl))
 
 -- ---- the count with which dropping begins again
 
--- A queue that is not dropping. Its frames will have waited too long for an interval at 130000.
+-- A queue that is not dropping and has dropped no frame. Its frames will have waited too long for an interval
+-- at 130000.
 abbrev pub resting : ℕ → ℕ → ℕ → Codel
 resting count last_count drop_next = record {
   first_above = 130000;
@@ -153,9 +154,10 @@ resting count last_count drop_next = record {
   count = count;
   last_count = last_count;
   dropping = false;
+  dropped = 0;
 }
 
--- A queue that is dropping, with this count; the next drop is due at this time.
+-- A queue that is dropping and has dropped one frame, with this count; the next drop is due at this time.
 abbrev pub dropping_again : ℕ → ℕ → Codel
 dropping_again count drop_next = record {
   first_above = 130000;
@@ -163,6 +165,7 @@ dropping_again count drop_next = record {
   count = count;
   last_count = count;
   dropping = true;
+  dropped = 1;
 }
 
 -- One dequeue at this time, from five frames, drops the first frame and returns the second.
@@ -212,6 +215,7 @@ almost_greatest = record {
   count = 4294967294;
   last_count = 5;
   dropping = true;
+  dropped = 4294967294;
 }
 
 abbrev pub long_interval : Params
@@ -226,3 +230,9 @@ pub count_stays_at_its_greatest :
     × ((end.state.count ≡ 4294967295) × (end.state.drop_next ≡ 222070))
 unfolding a_dequeue
 count_stays_at_its_greatest = (refl, (refl, refl))
+
+-- The same dequeues drop two frames.
+pub dropped_stays_at_its_greatest :
+    (played long_interval almost_greatest (frames_from 0 20) count_times).state.dropped ≡ 4294967295
+unfolding a_dequeue
+dropped_stays_at_its_greatest = refl

@@ -10,7 +10,7 @@ use Rattle.wf_def_lists.specs.Lengths.{greatest_body}
 abbrev pub max_packet : ℕ
 max_packet = greatest_body
 
--- The greatest count of drops, 2^32 - 1. A count at this value does not rise.
+-- The greatest number of drops, 2^32 - 1. `count` and `dropped` stay at this value once they are there.
 abbrev pub greatest_count : ℕ
 greatest_count = 4294967295
 
@@ -37,17 +37,30 @@ pub record Params : Type 0 where
   pub target : ℕ
   pub interval : ℕ
 
--- The state of a queue between dequeues (5.2). Each comment begins with the RFC's name of the field.
+-- The state of a queue between dequeues (5.2). Each comment begins with the RFC's name of the field. The RFC
+-- has no `dropped`, and no other field depends on it.
 pub record Codel : Type 0 where
   pub first_above : ℕ  -- first_above_time: when frames will have waited too long for an interval; 0: never
   pub drop_next : ℕ  -- drop_next: when the next drop is due
   pub count : ℕ  -- count: the number of drops that the control law uses; each drop raises it by 1
   pub last_count : ℕ  -- lastcount: the count with which dropping began
   pub dropping : Bool  -- dropping: frames are dropped at the times of the control law
+  pub dropped : ℕ  -- the number of frames that CoDel dropped from the queue since the start
 
 -- The state of a queue before its first dequeue.
 abbrev pub new_codel : Codel
-new_codel = record { first_above = 0; drop_next = 0; count = 0; last_count = 0; dropping = false }
+new_codel = record {
+  first_above = 0;
+  drop_next = 0;
+  count = 0;
+  last_count = 0;
+  dropping = false;
+  dropped = 0;
+}
+
+-- The state of a queue after its station left: a new one, except that `dropped` stays.
+abbrev pub renewed : Codel → Codel
+renewed c = record new_codel { dropped = c.dropped }
 
 -- Returns the octets in a queue: the sum of the lengths of its frames.
 abbrev pub octets : List Item → ℕ
@@ -79,7 +92,7 @@ pub record IsGreatestStep (interval count d : ℕ) : Type 0 where
 abbrev pub control_law : Params → ℕ → ℕ → ℕ
 control_law p t c = t + step_of p.interval c
 
--- Returns the count after one more drop.
+-- Returns a number of drops after one more drop.
 abbrev pub rise : ℕ → ℕ
 rise count = min (count + 1) greatest_count
 
@@ -114,6 +127,7 @@ begin_dropping p now c second =
       count = first_count p now c;
       last_count = first_count p now c;
       dropping = true;
+      dropped = rise c.dropped;
     }
 
 -- Look i of a dequeue at time `now`. `above` is first_above before look 0.
@@ -121,7 +135,7 @@ abbrev pub look : Params → ℕ → ℕ → List Item → ℕ → Look
 look p now above items zero = look_at p now above items
 look p now above items (suc i) = look_at p now (look p now above items i).first_above (drop (suc i) items)
 
--- Returns the count after i more drops, limited to the greatest count.
+-- Returns a number of drops after i more drops, limited to the greatest.
 abbrev pub raised_count : ℕ → ℕ → ℕ
 raised_count count zero = count
 raised_count count (suc i) = min (count + suc i) greatest_count
@@ -159,6 +173,7 @@ state_dropping p now c due items i = record c {
   drop_next = if (look p now c.first_above items i).ok then next_due p c.count due i else last_due p c due i;
   count = raised_count c.count i;
   dropping = (look p now c.first_above items i).ok;
+  dropped = raised_count c.dropped i;
 }
 
 -- Returns how many frames a dequeue drops while not dropping: 1 if look 0 is ok, else 0.

@@ -15,8 +15,8 @@ dropping_first x d = record d { dropped = x ∷ d.dropped }
 -- Dequeues while dropping: the loop `while (now >= drop_next && dropping)`. Each round looks at the frame
 -- at the head. `next` is when the drop of this frame is due. If the look is ok (ok_to_drop), drop_next
 -- becomes `next`; the frame is dropped if `next` is not after `now`, else it is returned. If the look is
--- not ok, dropping ends, drop_next is unchanged, and the frame is returned. A drop raises the count, and
--- the control law gives the time of the next drop.
+-- not ok, dropping ends, drop_next is unchanged, and the frame is returned. A drop raises the count and
+-- `dropped`, and the control law gives the time of the next drop.
 unfoldable pub dequeue_dropping : Params → ℕ → Codel → ℕ → List Item → Dequeued
 dequeue_dropping p now c next [] = giving (record c { first_above = 0; dropping = false }) []
 dequeue_dropping p now c next (x ∷ rest) =
@@ -24,7 +24,12 @@ dequeue_dropping p now c next (x ∷ rest) =
     let after_drop : Dequeued =
     dropping_first x
     (dequeue_dropping p now
-    (record c { first_above = look.first_above; drop_next = next; count = rise c.count })
+    (record c {
+      first_above = look.first_above;
+      drop_next = next;
+      count = rise c.count;
+      dropped = rise c.dropped;
+    })
     (control_law p next (rise c.count))
     rest)
     in

@@ -10,7 +10,7 @@
 #![tactic(auto)]
 
 ghost use Rattle.std.specs.Prelude.{◌≡◌, ℕ, List, Bool, None, IsTrue, IsFalse, ◌<◌, ◌^◌, ◌↔◌};
-ghost use Rattle.wf_def_codel.specs.Codel.{Item, Codel, Params, dequeue, drops_dropping, ends_drops, root, step_of, IsRoot, IsGreatestStep};
+ghost use Rattle.wf_def_codel.specs.Codel.{Item, Codel, Params, dequeue, drops, drops_dropping, raised_count, ends_drops, root, step_of, IsRoot, IsGreatestStep};
 ghost use Rattle.wf_def_codel.specs.CodelLoop.{stepped};
 ghost use Rattle.wf_def_rotation.specs.Rotation.{Rotation, pick};
 ghost use Rattle.wf_def_rotation.specs.Loop.{EndLaw, LoopLaw, VisitLaw};
@@ -27,6 +27,14 @@ pub fn dequeue_is_the_loop()
         IsTrue (ends_drops times now state due items (drops_dropping times now state due items)) }
     ensures least { (times : Params) (now : ℕ) (state : Codel) (due : ℕ) (items : List Item) (i : ℕ) →
         i < drops_dropping times now state due items → IsFalse (ends_drops times now state due items i) }
+{}
+
+/// A dequeue adds the frames that it drops to the number of frames that CoDel dropped from the queue, which
+/// stays at 2^32 - 1 once it is there.
+pub fn dropped_law()
+    ensures { (times : Params) (now : ℕ) (state : Codel) (items : List Item) →
+        (dequeue times now state items).state.dropped
+        ≡ raised_count state.dropped (drops times now state items) }
 {}
 
 /// `root` returns the integer square root of a number below 4 ^ digits, and a number has only one.

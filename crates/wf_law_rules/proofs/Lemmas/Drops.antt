@@ -29,7 +29,12 @@ least-ext f g same (suc n) = rw (same 0, least-ext (λ i. f (suc i)) (λ i. g (s
 
 -- The state after one drop, which was due at `due`.
 abbrev pub dropped_once : Params → ℕ → Codel → ℕ → ℕ → Codel
-dropped_once p now c due above = record c { first_above = above; drop_next = due; count = rise c.count }
+dropped_once p now c due above = record c {
+  first_above = above;
+  drop_next = due;
+  count = rise c.count;
+  dropped = rise c.dropped;
+}
 
 -- `seen` is the first look. The equations here distinguish whether it is ok, and whether the drop is due.
 module _ (p : Params) (now : ℕ) (c : Codel) (due : ℕ) (x : Item) (rest : List Item) where
@@ -74,6 +79,7 @@ module _ (p : Params) (now : ℕ) (c : Codel) (due : ℕ) (x : Item) (rest : Lis
     next-suc p c.count due i,
     last-suc i,
     raised-suc c.count i,
+    raised-suc c.dropped i,
   ) refl
 
   pub state-bad : seen.ok ≡ false → state_dropping p now c due (x ∷ rest) 0
