@@ -1,7 +1,7 @@
 -- Defines the TIM element (IEEE 802.11-2012, 8.4.2.7), which announces the association identifiers (AIDs)
 -- with traffic. AID n is bit n mod 8 of octet n / 8 of the traffic-indication virtual bitmap. The element
 -- contains a part of this bitmap.
-use Rattle.std.specs.Prelude.{ℕ, ◌+◌, ◌-◌, ◌*◌, ◌/◌, ◌%◌, ◌^◌, ◌==◌, List, [], ◌∷◌, if◌then◌else◌, map, sum_by}
+use Rattle.std.specs.Prelude.{ℕ, ◌+◌, ◌-◌, ◌*◌, ◌/◌, ◌%◌, ◌^◌, ◌==◌, Bool, true, List, [], ◌∷◌, if◌then◌else◌, map, sum_by}
 use Rattle.wf_def_lists.specs.Table.{count_from}
 
 -- The element ID (8.4.2.1, table 8-54).
@@ -32,3 +32,11 @@ tim_element count period (a ∷ aids) =
     let n2 : ℕ = last_of a aids / 8 in
     tim_id ∷ (n2 - n1 + (tim_fields + 1)) ∷ count ∷ period ∷ n1
     ∷ map (map_octet (a ∷ aids)) (count_from n1 (n2 - n1 + 1))
+
+-- Returns the octets of an element with bit 0 of its bitmap control set, if the beacon announces group
+-- frames. The other bits of this octet are the even number n1, so the octet is one more. Octets that are no
+-- element stay as they are.
+abbrev pub with_group_bit : Bool → List ℕ → List ℕ
+with_group_bit true (id ∷ length ∷ count ∷ period ∷ control ∷ part) =
+    id ∷ length ∷ count ∷ period ∷ (control + 1) ∷ part
+with_group_bit announced octets = octets

@@ -3,7 +3,7 @@
 use Rattle.std.proofs.Common.{◌≡◌, ◌∙◌, ◌↔◌, ℕ, zero, suc, ◌<◌, ◌≤◌, nat_le, Bool, true, false, cond, not, ◌&&◌, List, [], ◌∷◌, get_or, length, None, Some, find, refl, ap, lit<, arith}
 use Rattle.wf_frame.specs.declared.settings.Config.{Config}
 use Rattle.wf_frame.specs.declared.settings.Field.{Field}
-use Rattle.wf_frame.specs.declared.settings.Field.TheVariants.{Stations, Flows, Limit, Room, FlowQuantum, Quantum, Inflight, Attempts, Agg, Cap, Sleeping, Calls, Charge, Debt, AqlTotal, KeepOrder, CodelReset, Aql, Pending, Overhead, CapVi, CapVo, Answers, Credits, Legacy}
+use Rattle.wf_frame.specs.declared.settings.Field.TheVariants.{Stations, Flows, Limit, Room, FlowQuantum, Quantum, Inflight, Attempts, Agg, Cap, Sleeping, Calls, Charge, Debt, AqlTotal, KeepOrder, CodelReset, Aql, Pending, Overhead, CapVi, CapVo, Answers, Credits, Legacy, Period, Buffered}
 use Rattle.wf_frame.specs.Settings.{fields, lowest_of, greatest_of, value_of, with_value, is_in_range, first_out_of_range, IsInRange}
 
 -- if nothing is found, the first item does not pass and nothing is found after it
@@ -64,6 +64,8 @@ each_bounded c h CapVo = h.cap_vo
 each_bounded c h Answers = h.answers
 each_bounded c h Credits = h.credits
 each_bounded c h Legacy = h.legacy
+each_bounded c h Period = h.period
+each_bounded c h Buffered = h.buffered
 
 all_bounded : (c : Config) → ((field : Field) → IsBounded c field) → IsInRange c
 all_bounded c each = record {
@@ -92,6 +94,8 @@ all_bounded c each = record {
   answers = each Answers;
   credits = each Credits;
   legacy = each Legacy;
+  period = each Period;
+  buffered = each Buffered;
 }
 
 -- if one setting is set to a value in its range, each setting is in its range
@@ -122,6 +126,8 @@ bounded_anew c CapVo CapVo value h b = b
 bounded_anew c Answers Answers value h b = b
 bounded_anew c Credits Credits value h b = b
 bounded_anew c Legacy Legacy value h b = b
+bounded_anew c Period Period value h b = b
+bounded_anew c Buffered Buffered value h b = b
 bounded_anew c field other value h b = each_bounded c h other
 
 -- end bounds
@@ -162,6 +168,8 @@ in_range c none =
       answers = bounds _ _ _ (holds 22 Stations (lit< tt));
       credits = bounds _ _ _ (holds 23 Stations (lit< tt));
       legacy = bounds _ _ _ (holds 24 Stations (lit< tt));
+      period = bounds _ _ _ (holds 25 Stations (lit< tt));
+      buffered = bounds _ _ _ (holds 26 Stations (lit< tt));
     }
 
 -- end found

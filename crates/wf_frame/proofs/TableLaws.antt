@@ -11,9 +11,11 @@ use Rattle.wf_frame.specs.declared.calls.Value.TheVariants as value
 use Rattle.wf_frame.specs.declared.notes.Note.{Note}
 use Rattle.wf_frame.specs.declared.notes.Note.TheVariants.{Enqueue, Asked}
 use Rattle.wf_frame.specs.declared.notes.Ask.{Ask}
-use Rattle.wf_frame.specs.declared.notes.Ask.TheVariants.{Rate, Pull, Done}
+use Rattle.wf_frame.specs.declared.notes.Ask.TheVariants.{Rate, Pull, Done, Group}
+use Rattle.wf_frame.specs.declared.notes.GroupAsk.{GroupAsk}
+use Rattle.wf_frame.specs.declared.notes.GroupAsk.TheVariants as group
 use Rattle.wf_frame.specs.declared.notes.AskedRate.TheVariants.{Ht}
-use Rattle.wf_frame.specs.Calls.{args_of, form_of_limits, values_of_frames, values_of_air, limits, ask_of, note_form, note_values, note_made, enqueued, AreOfKinds}
+use Rattle.wf_frame.specs.Calls.{args_of, form_of_limits, values_of_frames, values_of_air, form_of_group, values_of_group, limits, ask_of, note_form, note_values, note_made, enqueued, AreOfKinds}
 
 -- the same for a Pull with these limits
 pull_made_again : (class : Class) (frames air : Option ℕ) →
@@ -24,12 +26,21 @@ pull_made_again class (Some frames) None = refl
 pull_made_again class None (Some air) = refl
 pull_made_again class (Some frames) (Some air) = refl
 
+-- the same for a call about group frames
+group_made_again : (ask : GroupAsk) →
+    note_made (form_of_group ask) (values_of_group ask) ≡ Some (Asked (Group ask))
+group_made_again (group.Accept len) = refl
+group_made_again group.Beacon = refl
+group_made_again group.Pull = refl
+group_made_again group.Done = refl
+
 -- the first lines separate rates by their formats, and Done calls with an airtime from those without; the
 -- last line is for each other call
 pub made_again : (note : Note) → note_made (note_form note) (note_values note) ≡ Some note
 made_again (Asked (Rate station (Ht mcs mhz short))) = refl
 made_again (Asked (Done exchange heard None)) = refl
 made_again (Asked (Pull class limits)) = pull_made_again class limits.frames limits.air
+made_again (Asked (Group ask)) = group_made_again ask
 made_again note = refl
 
 -- ---- the frame that values make

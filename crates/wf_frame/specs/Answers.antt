@@ -44,6 +44,7 @@ reply_with (brief.Held start) pairs ids = reply.Held start
 reply_with brief.Begun pairs ids = reply.Begun
 reply_with brief.Freed pairs ids = reply.Freed
 reply_with (brief.Ceased dropped) pairs ids = reply.Ceased dropped ids
+reply_with (brief.Group answer) pairs ids = reply.Group answer
 reply_with (brief.Refused refusal) pairs ids = reply.Refused refusal
 
 -- the reply of an answer: its brief, with the list that the brief refers to

@@ -15,7 +15,9 @@ use Rattle.wf_frame.specs.declared.calls.Value.TheVariants as value
 use Rattle.wf_frame.specs.declared.notes.Note.{Note}
 use Rattle.wf_frame.specs.declared.notes.Note.TheVariants.{Enqueue, Asked}
 use Rattle.wf_frame.specs.declared.notes.Ask.{Ask}
-use Rattle.wf_frame.specs.declared.notes.Ask.TheVariants.{Join, Leave, Rate, Tick, Pull, Arrive, Answer, Done, Sleep, Wake, Poll, Rx, Reap, Ampdu, Stop, Start, Unsent, GiveUp, Flush, Offload, Weight, Plain, Hold, Begin, Free, Cease}
+use Rattle.wf_frame.specs.declared.notes.Ask.TheVariants.{Join, Leave, Rate, Tick, Pull, Arrive, Answer, Done, Sleep, Wake, Poll, Rx, Reap, Ampdu, Stop, Start, Unsent, GiveUp, Flush, Offload, Weight, Plain, Hold, Begin, Free, Cease, Group}
+use Rattle.wf_frame.specs.declared.notes.GroupAsk.{GroupAsk}
+use Rattle.wf_frame.specs.declared.notes.GroupAsk.TheVariants as group
 use Rattle.wf_frame.specs.declared.notes.Limits.{Limits}
 use Rattle.wf_frame.specs.declared.notes.AskedRate.{AskedRate}
 use Rattle.wf_frame.specs.declared.notes.AskedRate.TheVariants.{Ht, Vht, He, Ofdm, Dsss}
@@ -70,6 +72,18 @@ form_row form.Hold = row 23 (codes "hold") (codes "hold S TID")
 form_row form.Begin = row 24 (codes "begin") (codes "begin S TID W")
 form_row form.Free = row 25 (codes "free") (codes "free S TID")
 form_row form.Cease = row 26 (codes "cease") (codes "cease S TID")
+form_row form.Group = row 27 (codes "group") (codes "group LENGTH")
+form_row form.Beacon = row 28 (codes "beacon") (codes "beacon")
+form_row form.Gpull = row 29 (codes "gpull") (codes "gpull")
+form_row form.Gdone = row 30 (codes "gdone") (codes "gdone")
+
+-- The form is one of a call about group frames.
+abbrev pub IsOfGroup : CallForm → Type 0
+IsOfGroup form.Group = Unit {0}
+IsOfGroup form.Beacon = Unit {0}
+IsOfGroup form.Gpull = Unit {0}
+IsOfGroup form.Gdone = Unit {0}
+IsOfGroup _ = ⊥
 
 -- the number of a form's call
 abbrev pub form_number : CallForm → ℕ
@@ -125,6 +139,10 @@ arguments_of form.Hold = argument.Station ∷ argument.Tid ∷ []
 arguments_of form.Begin = argument.Station ∷ argument.Tid ∷ argument.Window ∷ []
 arguments_of form.Free = argument.Station ∷ argument.Tid ∷ []
 arguments_of form.Cease = argument.Station ∷ argument.Tid ∷ []
+arguments_of form.Group = argument.Length ∷ []
+arguments_of form.Beacon = []
+arguments_of form.Gpull = []
+arguments_of form.Gdone = []
 
 -- the greatest number of frames that a line gives to a pull as its limit
 abbrev pub greatest_frames : ℕ
@@ -181,15 +199,17 @@ forms =
     ∷ form.Tick ∷ form.Enqueue ∷ form.Pull ∷ form.PullFrames ∷ form.PullAir ∷ form.PullLimited ∷ form.Arrive
     ∷ form.Answer ∷ form.Done ∷ form.DoneAir ∷ form.Sleep ∷ form.Wake ∷ form.Poll ∷ form.Rx ∷ form.Reap
     ∷ form.Ampdu ∷ form.Stop ∷ form.Start ∷ form.Unsent ∷ form.GiveUp ∷ form.Flush ∷ form.Offload
-    ∷ form.Weight ∷ form.Plain ∷ form.Hold ∷ form.Begin ∷ form.Free ∷ form.Cease ∷ []
+    ∷ form.Weight ∷ form.Plain ∷ form.Hold ∷ form.Begin ∷ form.Free ∷ form.Cease ∷ form.Group ∷ form.Beacon
+    ∷ form.Gpull ∷ form.Gdone ∷ []
 
 -- all calls, in their first forms
 abbrev pub calls : List CallForm
 calls =
     form.Join ∷ form.Leave ∷ form.Rate ∷ form.Tick ∷ form.Enqueue ∷ form.Pull ∷ form.Arrive ∷ form.Answer
     ∷ form.Done ∷ form.Sleep ∷ form.Wake ∷ form.Poll ∷ form.Rx ∷ form.Reap ∷ form.Ampdu ∷ form.Stop
-    ∷ form.Start ∷ form.Unsent ∷ form.GiveUp ∷ form.Flush ∷ form.Offload ∷ form.Weight ∷ form.Plain ∷ form.Hold
-    ∷ form.Begin ∷ form.Free ∷ form.Cease ∷ []
+    ∷ form.Start ∷ form.Unsent ∷ form.GiveUp ∷ form.Flush ∷ form.Offload ∷ form.Weight ∷ form.Plain
+    ∷ form.Hold ∷ form.Begin ∷ form.Free ∷ form.Cease ∷ form.Group ∷ form.Beacon ∷ form.Gpull ∷ form.Gdone
+    ∷ []
 
 -- the first form of the call with this word
 abbrev pub call_named : List ℕ → Option CallForm
@@ -236,6 +256,13 @@ abbrev pub form_of_end : Option ℕ → CallForm
 form_of_end None = form.Done
 form_of_end (Some air) = form.DoneAir
 
+-- the form of the line of a call about group frames
+abbrev pub form_of_group : GroupAsk → CallForm
+form_of_group (group.Accept len) = form.Group
+form_of_group group.Beacon = form.Beacon
+form_of_group group.Pull = form.Gpull
+form_of_group group.Done = form.Gdone
+
 -- the form of a call's line
 abbrev pub note_form : Note → CallForm
 note_form (Enqueue station tid flow len) = form.Enqueue
@@ -265,6 +292,7 @@ note_form (Asked (Hold station tid)) = form.Hold
 note_form (Asked (Begin station tid window)) = form.Begin
 note_form (Asked (Free station tid)) = form.Free
 note_form (Asked (Cease station tid)) = form.Cease
+note_form (Asked (Group ask)) = form_of_group ask
 
 -- the values of a rate's arguments after the station
 abbrev pub values_of_rate : AskedRate → List Value
@@ -285,6 +313,13 @@ values_of_air (Some air) = value.Air ∷ value.Long air ∷ []
 abbrev pub values_of_frames : Option ℕ → List Value
 values_of_frames None = []
 values_of_frames (Some frames) = value.Frames ∷ value.Long frames ∷ []
+
+-- the values of the arguments of a call about group frames, in order
+abbrev pub values_of_group : GroupAsk → List Value
+values_of_group (group.Accept len) = value.Short len ∷ []
+values_of_group group.Beacon = []
+values_of_group group.Pull = []
+values_of_group group.Done = []
 
 -- the values of a call's arguments, in order
 abbrev pub note_values : Note → List Value
@@ -323,6 +358,7 @@ note_values (Asked (Begin station tid window)) =
     value.Short station ∷ value.Octet tid ∷ value.Short window ∷ []
 note_values (Asked (Free station tid)) = value.Short station ∷ value.Octet tid ∷ []
 note_values (Asked (Cease station tid)) = value.Short station ∷ value.Octet tid ∷ []
+note_values (Asked (Group ask)) = values_of_group ask
 
 -- the Enqueue call with these values; None if they are no values of its arguments
 abbrev pub enqueued : List Value → Option Note
@@ -387,6 +423,10 @@ ask_of form.Begin (value.Short station ∷ value.Octet tid ∷ value.Short windo
     Some (Begin station tid window)
 ask_of form.Free (value.Short station ∷ value.Octet tid ∷ []) = Some (Free station tid)
 ask_of form.Cease (value.Short station ∷ value.Octet tid ∷ []) = Some (Cease station tid)
+ask_of form.Group (value.Short len ∷ []) = Some (Group (group.Accept len))
+ask_of form.Beacon [] = Some (Group group.Beacon)
+ask_of form.Gpull [] = Some (Group group.Pull)
+ask_of form.Gdone [] = Some (Group group.Done)
 ask_of _ _ = None
 
 -- the call of a form with these values; None if they are no values of its arguments

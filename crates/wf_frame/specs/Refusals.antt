@@ -2,7 +2,7 @@
 -- of them.
 use Rattle.std.specs.Prelude.{ℕ, ℤ, pos, ◌==◌, Option, Some, None, List, [], ◌∷◌, codes, find}
 use Rattle.wf_frame.specs.declared.notes.Refusal.{Refusal}
-use Rattle.wf_frame.specs.declared.notes.Refusal.TheVariants.{BadStation, BadWindow, BadStart, BadExponent, BadRate, BadTick, BadTid, BadAir, BadIndex, Live, NoStation, NoExchange, NoAnswer, Open, Room, Sleeping, Full, Idle, Answered, Arrived, Nothing, Asleep, Awake, Polled, Debt, HistoryFull, BadWeight, Ahead, BadAmpdu, Stopped, Started, Marked, Offloaded, Agreed, Held, NotHeld, NotAgreed, Waits, Legacy}
+use Rattle.wf_frame.specs.declared.notes.Refusal.TheVariants.{BadStation, BadWindow, BadStart, BadExponent, BadRate, BadTick, BadTid, BadAir, BadIndex, Live, NoStation, NoExchange, NoAnswer, Open, Room, Sleeping, Full, Idle, Answered, Arrived, Nothing, Asleep, Awake, Polled, Debt, HistoryFull, BadWeight, Ahead, BadAmpdu, Stopped, Started, Marked, Offloaded, Agreed, Held, NotHeld, NotAgreed, Waits, Legacy, Buffered, Flying}
 
 -- begin rows: tools/tables writes these lines
 
@@ -47,6 +47,8 @@ refusal_row NotHeld = (36, codes "not-held")
 refusal_row NotAgreed = (37, codes "not-agreed")
 refusal_row (Waits count) = (38, codes "waits")
 refusal_row Legacy = (39, codes "legacy")
+refusal_row (Buffered queued) = (40, codes "buffered")
+refusal_row Flying = (41, codes "flying")
 
 -- end rows
 
@@ -70,6 +72,7 @@ number_told (Full count) = Some (pos count)
 number_told (Debt deficit) = Some deficit
 number_told (Ahead owed) = Some (pos owed)
 number_told (Waits count) = Some (pos count)
+number_told (Buffered queued) = Some (pos queued)
 number_told _ = None
 
 -- the refusals by their numbers; a number that follows the word is 0
@@ -78,7 +81,8 @@ refusal_list =
     BadStation ∷ BadWindow ∷ BadStart ∷ BadExponent ∷ BadRate ∷ BadTick ∷ BadTid ∷ BadAir ∷ BadIndex ∷ Live
     ∷ NoStation ∷ NoExchange ∷ NoAnswer ∷ Open 0 ∷ Room 0 ∷ Sleeping 0 ∷ Full 0 ∷ Idle ∷ Answered ∷ Arrived
     ∷ Nothing ∷ Asleep ∷ Awake ∷ Polled ∷ Debt (pos 0) ∷ HistoryFull ∷ BadWeight ∷ Ahead 0 ∷ BadAmpdu
-    ∷ Stopped ∷ Started ∷ Marked ∷ Offloaded ∷ Agreed ∷ Held ∷ NotHeld ∷ NotAgreed ∷ Waits 0 ∷ Legacy ∷ []
+    ∷ Stopped ∷ Started ∷ Marked ∷ Offloaded ∷ Agreed ∷ Held ∷ NotHeld ∷ NotAgreed ∷ Waits 0 ∷ Legacy
+    ∷ Buffered 0 ∷ Flying ∷ []
 
 -- end numbers
 

@@ -4,7 +4,7 @@ use Rattle.std.specs.Prelude.{ℕ, ◌==◌, ◌≤◌, nat_le, Bool, false, ◌
 use Rattle.std.specs.Str.{bytes_eq}
 use Rattle.wf_frame.specs.declared.settings.Config.{Config}
 use Rattle.wf_frame.specs.declared.settings.Field.{Field}
-use Rattle.wf_frame.specs.declared.settings.Field.TheVariants.{Stations, Flows, Limit, Room, FlowQuantum, Quantum, Inflight, Attempts, Agg, Cap, Sleeping, Calls, Charge, Debt, AqlTotal, KeepOrder, CodelReset, Aql, Pending, Overhead, CapVi, CapVo, Answers, Credits, Legacy}
+use Rattle.wf_frame.specs.declared.settings.Field.TheVariants.{Stations, Flows, Limit, Room, FlowQuantum, Quantum, Inflight, Attempts, Agg, Cap, Sleeping, Calls, Charge, Debt, AqlTotal, KeepOrder, CodelReset, Aql, Pending, Overhead, CapVi, CapVo, Answers, Credits, Legacy, Period, Buffered}
 
 -- a row: the number of a setting, its word, its least value and its greatest value
 pub record Row : Type 0 where
@@ -45,6 +45,8 @@ setting_row CapVo = row 22 (codes "cap_vo") 0 5400
 setting_row Answers = row 23 (codes "answers") 0 1
 setting_row Credits = row 24 (codes "credits") 0 1
 setting_row Legacy = row 25 (codes "legacy") 0 2
+setting_row Period = row 26 (codes "period") 0 255
+setting_row Buffered = row 27 (codes "buffered") 0 65535
 
 -- the standard settings: those of a head that sets none
 abbrev pub standard : Config
@@ -74,6 +76,8 @@ standard = record {
   answers = 0;
   credits = 0;
   legacy = 0;
+  period = 0;
+  buffered = 0;
 }
 
 -- the settings for devices: the standard ones with these values
@@ -94,7 +98,7 @@ device = record standard {
 abbrev pub fields : List Field
 fields = Stations ∷ Flows ∷ Limit ∷ Room ∷ FlowQuantum ∷ Quantum ∷ Inflight ∷ Attempts ∷ Agg ∷ Cap ∷ Sleeping
     ∷ Calls ∷ Charge ∷ Debt ∷ AqlTotal ∷ KeepOrder ∷ CodelReset ∷ Aql ∷ Pending ∷ Overhead ∷ CapVi ∷ CapVo
-    ∷ Answers ∷ Credits ∷ Legacy ∷ []
+    ∷ Answers ∷ Credits ∷ Legacy ∷ Period ∷ Buffered ∷ []
 
 -- end rows
 
@@ -151,6 +155,8 @@ value_of c CapVo = c.cap_vo
 value_of c Answers = c.answers
 value_of c Credits = c.credits
 value_of c Legacy = c.legacy
+value_of c Period = c.period
+value_of c Buffered = c.buffered
 
 -- the settings with one of them set to a value
 abbrev pub with_value : Config → Field → ℕ → Config
@@ -179,6 +185,8 @@ with_value c CapVo value = record c { cap_vo = value }
 with_value c Answers value = record c { answers = value }
 with_value c Credits value = record c { credits = value }
 with_value c Legacy value = record c { legacy = value }
+with_value c Period value = record c { period = value }
+with_value c Buffered value = record c { buffered = value }
 
 -- end values
 
@@ -230,5 +238,7 @@ pub record IsInRange (config : Config) : Type 0 where
   pub answers : (0 ≤ config.answers) × (config.answers ≤ 1)
   pub credits : (0 ≤ config.credits) × (config.credits ≤ 1)
   pub legacy : (0 ≤ config.legacy) × (config.legacy ≤ 2)
+  pub period : (0 ≤ config.period) × (config.period ≤ 255)
+  pub buffered : (0 ≤ config.buffered) × (config.buffered ≤ 65535)
 
 -- end ranges

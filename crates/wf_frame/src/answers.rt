@@ -7,7 +7,7 @@ ghost use Rattle.std.specs.Prelude.{◌≡◌, []};
 ghost use Rattle.wf_frame.specs.declared.notes.Refusal.TheVariants.{Nothing};
 ghost use Rattle.wf_frame.specs.declared.answers.Brief.TheVariants.{Refused};
 
-use crate::{Class, Fate, Ids, Pairs, Refusal};
+use crate::{Class, Fate, GroupReply, Ids, Pairs, Refusal};
 
 /// How an exchange sends its frames.
 #[derive(Clone, Copy, Debug, PartialEq, Eq)]
@@ -112,6 +112,8 @@ pub enum Brief {
     Ceased {
         dropped: u32,
     },
+    /// The answer to a call about group frames.
+    Group(GroupReply),
     /// The call was refused.
     Refused(Refusal),
 }

@@ -2,12 +2,15 @@
 //! and the values that an argument may have.
 
 ghost use Rattle.std.specs.Prelude.{◌≡◌, ◌<◌, ◌≤◌, length};
-ghost use Rattle.wf_frame.specs.Calls.{form_number, call_word, form_line, forms, call_named, call_numbered, arguments_of, argument_kind, default_of, format_word as word_of_format, format_named};
+ghost use Rattle.wf_frame.specs.Calls.{IsOfGroup, form_number, call_word, form_line, forms, call_named, call_numbered, arguments_of, argument_kind, default_of, format_word as word_of_format, format_named};
 
 use crate::Class;
 
 /// The greatest number of frames that a line gives to a pull as its limit.
 const GREATEST_FRAMES: u32 = 65_535;
+
+/// No row of the table.
+const NO_ROW: (u8, &[u8], &[u8]) = (0, b"", b"");
 
 /// A form of a call's line. A rate has five forms, one for each format, a pull has four, by the limits that
 /// it gives, and the end of an exchange has two; each other call has one. The comment of each variant is its
@@ -87,6 +90,14 @@ pub enum CallForm {
     Free,
     /// The agreement of a TID ends, and the TID is held.
     Cease,
+    /// A frame for a group of stations is accepted; LENGTH is the length of its body in octets.
+    Group,
+    /// A beacon goes out.
+    Beacon,
+    /// The driver asks for the next group frame.
+    Gpull,
+    /// The transmission of a group frame ended.
+    Gdone,
 }
 
 /// The format of a rate, if its line has a word for it. A rate of HT has none.
@@ -226,7 +237,7 @@ impl Default for Value {
     }
 }
 
-const CALLS: [CallForm; 27] = [
+const CALLS: [CallForm; 31] = [
     CallForm::Join,
     CallForm::Leave,
     CallForm::Rate,
@@ -254,9 +265,13 @@ const CALLS: [CallForm; 27] = [
     CallForm::Begin,
     CallForm::Free,
     CallForm::Cease,
+    CallForm::Group,
+    CallForm::Beacon,
+    CallForm::Gpull,
+    CallForm::Gdone,
 ];
 
-const FORMS: [CallForm; 35] = [
+const FORMS: [CallForm; 39] = [
     CallForm::Join,
     CallForm::Leave,
     CallForm::Rate,
@@ -292,6 +307,10 @@ const FORMS: [CallForm; 35] = [
     CallForm::Begin,
     CallForm::Free,
     CallForm::Cease,
+    CallForm::Group,
+    CallForm::Beacon,
+    CallForm::Gpull,
+    CallForm::Gdone,
 ];
 
 impl RateFormat {
@@ -328,7 +347,7 @@ impl CallForm {
         ensures number { result.0 ≡ form_number self }
         ensures word { result.1.now ≡ call_word self }
         ensures line { result.2.now ≡ form_line self }
-        ensures range { result.0 < 27 }
+        ensures range { result.0 < 31 }
         ensures short { length result.1.now ≤ 7 }
     {
         match self {
@@ -367,20 +386,41 @@ impl CallForm {
             CallForm::Begin => (24, b"begin", b"begin S TID W"),
             CallForm::Free => (25, b"free", b"free S TID"),
             CallForm::Cease => (26, b"cease", b"cease S TID"),
+            CallForm::Group | CallForm::Beacon | CallForm::Gpull | CallForm::Gdone => {
+                self.group_row()
+            }
+        }
+    }
+
+    // The rows of the calls about group frames.
+    fn group_row(self) -> (u8, &'static [u8], &'static [u8])
+        requires { IsOfGroup self }
+        ensures number { result.0 ≡ form_number self }
+        ensures word { result.1.now ≡ call_word self }
+        ensures line { result.2.now ≡ form_line self }
+        ensures range { result.0 < 31 }
+        ensures short { length result.1.now ≤ 7 }
+    {
+        match self {
+            CallForm::Group => (27, b"group", b"group LENGTH"),
+            CallForm::Beacon => (28, b"beacon", b"beacon"),
+            CallForm::Gpull => (29, b"gpull", b"gpull"),
+            CallForm::Gdone => (30, b"gdone", b"gdone"),
+            _ => NO_ROW,
         }
     }
 
     /// Returns all forms, in the order of the help.
-    pub fn all() -> [CallForm; 35]
+    pub fn all() -> [CallForm; 39]
         ensures { result ≡ forms }
     {
         FORMS
     }
 
-    /// Returns the number of its call in C: 0 to 26.
+    /// Returns the number of its call in C: 0 to 30.
     pub fn number(self) -> u8
         ensures number { result ≡ form_number self }
-        ensures range { result < 27 }
+        ensures range { result < 31 }
     {
         self.row().0
     }
@@ -459,7 +499,8 @@ impl CallForm {
             | CallForm::Stop
             | CallForm::Start => &[Argument::Station],
             CallForm::Rx => &[Argument::Station, Argument::Class, Argument::Air],
-            CallForm::Reap => &[],
+            CallForm::Reap | CallForm::Beacon | CallForm::Gpull | CallForm::Gdone => &[],
+            CallForm::Group => &[Argument::Length],
             CallForm::Ampdu => &[Argument::Station, Argument::Octets],
             CallForm::Flush | CallForm::Hold | CallForm::Free | CallForm::Cease => {
                 &[Argument::Station, Argument::Tid]

@@ -79,10 +79,13 @@ impl Class {
     pub fn named(word: &[u8]) -> Option<Class>
         ensures { result ≡ class_named word.now }
     {
-        Class::all()
-            .iter()
-            .copied()
-            .find(|class| class.word() == word)
+        match word {
+            b"bk" => Some(Class::Bk),
+            b"be" => Some(Class::Be),
+            b"vi" => Some(Class::Vi),
+            b"vo" => Some(Class::Vo),
+            _ => None,
+        }
     }
 }
 

@@ -37,19 +37,25 @@ enum Body {
 /// The body of a frame of whose octets only the number is known.
 static ZEROS: [u8; 2304] = [0; 2304];
 
-/// A frame: its body of 1 to 2304 octets, its station, TID, flow and source, its owner's tag, and its fate.
+/// A frame: its body of 1 to 2304 octets, its station, TID, flow and source, its owner's tag, and what a path
+/// records of it.
 #[derive(Drop)]
 pub struct Frame {
     body: Body,
-    id: u64,
-    stamp: u64,
+    /// The id that the frame got when it was accepted.
+    pub id: u64,
+    /// The clock when the frame was accepted, in microseconds.
+    pub stamp: u64,
     station: u16,
     tid: u8,
     flow: u32,
     source: [u8; 6],
     tag: u64,
-    attempts: u8,
-    fate: Fate,
+    /// How often the frame was sent since it was accepted, whatever its fate: at most the setting `attempts`,
+    /// so at most 64.
+    pub attempts: u8,
+    /// Its fate.
+    pub fate: Fate,
 }
 
 impl Model for Frame {
@@ -143,20 +149,6 @@ impl Frame {
         Ok(Frame::with_body(station, tid, flow, Body::Octets(body)))
     }
 
-    /// Returns the id that the frame got when it was accepted.
-    pub fn id(&self) -> u64
-        ensures { result ≡ self.now.id }
-    {
-        self.id
-    }
-
-    /// Returns the clock when the frame was accepted, in microseconds.
-    pub fn stamp(&self) -> u64
-        ensures { result ≡ self.now.stamp }
-    {
-        self.stamp
-    }
-
     /// Returns the number of the station that the frame is for.
     pub fn station(&self) -> u16
         ensures { result ≡ self.now.station }
@@ -224,21 +216,6 @@ impl Frame {
         matches!(self.body, Body::Length(_))
     }
 
-    /// Returns how often it was sent since it was accepted, whatever its fate: at most the setting
-    /// `attempts`, so at most 64.
-    pub fn attempts(&self) -> u8
-        ensures { result ≡ self.now.attempts }
-    {
-        self.attempts
-    }
-
-    /// Returns its fate.
-    pub fn fate(&self) -> Fate
-        ensures { result ≡ self.now.fate }
-    {
-        self.fate
-    }
-
     /// Sets its source.
     pub fn set_source(&mut self, source: [u8; 6])
         ensures { self.new ≡ record self.old { source = source } }
@@ -251,15 +228,6 @@ impl Frame {
         ensures { self.new ≡ record self.old { tag = tag } }
     {
         self.tag = tag;
-    }
-
-    /// Sets its id and its stamp, and its number of attempts to 0, when it is accepted.
-    pub fn mark(&mut self, id: u64, stamp: u64)
-        ensures { self.new ≡ record self.old { id = id; stamp = stamp; attempts = 0 } }
-    {
-        self.id = id;
-        self.stamp = stamp;
-        self.attempts = 0;
     }
 
     /// Counts one more transmission, up to 255.
@@ -276,12 +244,5 @@ impl Frame {
         ensures { self.new ≡ sent_once_less self.old }
     {
         self.attempts = self.attempts.saturating_sub(1);
-    }
-
-    /// Sets its fate.
-    pub fn settle(&mut self, fate: Fate)
-        ensures { self.new ≡ record self.old { fate = fate } }
-    {
-        self.fate = fate;
     }
 }

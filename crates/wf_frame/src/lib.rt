@@ -38,5 +38,5 @@ pub use calls::{Arg, Argument, CallForm, RateFormat, Value};
 pub use classes::{Cause, Class, Fate, tid_number};
 pub use frames::{Frame, GREATEST_BODY, source_address};
 pub use lists::{FixedList, Ids, Pairs};
-pub use notes::{Ask, AskedRate, Limits, Note, Part, Refusal, ReplyNote};
+pub use notes::{Ask, AskedRate, GroupAsk, GroupReply, Limits, Note, Part, Refusal, ReplyNote};
 pub use settings::{Config, Field};

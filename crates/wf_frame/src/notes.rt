@@ -57,7 +57,8 @@ impl Limits {
     };
 }
 
-/// A call that brings no frame: one of twenty-six. An argument outside its given range is refused.
+/// A call that brings no frame for a station: one of twenty-seven. An argument outside its given range is
+/// refused.
 #[derive(Clone, Copy, Debug, PartialEq, Eq)]
 pub enum Ask {
     /// A station joins, with its window size in frames (1 to 256), first sequence number (0 to 4095),
@@ -198,6 +199,22 @@ pub enum Ask {
         station: u16,
         tid: u8,
     },
+    /// A call about group frames.
+    Group(GroupAsk),
+}
+
+/// A call about group frames: data frames whose first address is the address of a group. They are apart from
+/// the frames of stations, and their ids count separately.
+#[derive(Clone, Copy, Debug, PartialEq, Eq)]
+pub enum GroupAsk {
+    /// A group frame is accepted, with the length of its body, 1 to 2304 octets.
+    Accept { len: u16 },
+    /// A beacon goes out (IEEE 802.11-2012, 10.2.1.3).
+    Beacon,
+    /// The driver asks for the next group frame.
+    Pull,
+    /// The transmission of the group frame that is on the air has ended.
+    Done,
 }
 
 /// A call as numbers.
@@ -271,13 +288,14 @@ pub enum Refusal {
     Sleeping { queued: u32 },
     /// `count` exchanges of the class are open: as many as `inflight`.
     Full { count: u32 },
-    /// No station of the class is ready; the only refusal after which something may have changed.
+    /// `pull`: no station of the class is ready; after this refusal alone something may have changed.
+    /// `gpull`: no group frame may go now.
     Idle,
     /// The exchange was answered already.
     Answered,
     /// That transmission arrived already.
     Arrived,
-    /// There is nothing to answer, to send or to reap.
+    /// There is nothing to answer, to send, to reap or to end.
     Nothing,
     /// The station is asleep already.
     Asleep,
@@ -315,6 +333,10 @@ pub enum Refusal {
     Waits { count: u32 },
     /// The rate of the station is one of OFDM or DSSS, at which it has no agreement.
     Legacy,
+    /// `queued` group frames are queued: as many as `buffered`.
+    Buffered { queued: u32 },
+    /// A group frame is on the air.
+    Flying,
     // end refusals
 }
 
@@ -411,6 +433,35 @@ pub enum ReplyNote {
         dropped: u32,
         ids: Ids,
     },
+    /// The answer to a call about group frames.
+    Group(GroupReply),
     /// The call was refused.
     Refused(Refusal),
+}
+
+/// The answer to a call about group frames, whose ids are apart from those of other frames.
+#[derive(Clone, Copy, Debug, PartialEq, Eq)]
+pub enum GroupReply {
+    /// The id of the group frame that was accepted.
+    Queued {
+        id: u64,
+    },
+    /// The DTIM count of the beacon (0 to 254), and whether it announces group frames: bit 0 of the bitmap
+    /// control of its TIM element (IEEE 802.11-2012, 8.4.2.7).
+    Beacon {
+        count: u8,
+        follows: bool,
+    },
+    /// The group frame to send: its id, its sequence number (0 to 4095) and its airtime in microseconds.
+    /// `more` is the More Data bit.
+    Send {
+        id: u64,
+        number: u16,
+        air: u32,
+        more: bool,
+    },
+    /// The id of the group frame whose transmission ended.
+    Done {
+        id: u64,
+    },
 }

@@ -6,7 +6,7 @@ ghost use Rattle.wf_frame.specs.Refusals.{refusal_number, refusal_word, number_t
 use crate::Refusal;
 
 // The refusals by their numbers. A number that follows the word is 0.
-const REFUSALS: [Refusal; 39] = [
+const REFUSALS: [Refusal; 41] = [
     // begin list: tools/tables writes these lines
     Refusal::BadStation,
     Refusal::BadWindow,
@@ -47,6 +47,8 @@ const REFUSALS: [Refusal; 39] = [
     Refusal::NotAgreed,
     Refusal::Waits { count: 0 },
     Refusal::Legacy,
+    Refusal::Buffered { queued: 0 },
+    Refusal::Flying,
     // end list
 ];
 
@@ -55,7 +57,7 @@ impl Refusal {
     fn row(self) -> (u8, &'static [u8])
         ensures number { result.0 ≡ refusal_number self }
         ensures word { result.1.now ≡ refusal_word self }
-        ensures range { (0 < result.0) × (result.0 ≤ 39) }
+        ensures range { (0 < result.0) × (result.0 ≤ 41) }
         ensures short { length result.1.now ≤ 12 }
     {
         match self {
@@ -99,14 +101,16 @@ impl Refusal {
             Refusal::NotAgreed => (37, b"not-agreed"),
             Refusal::Waits { .. } => (38, b"waits"),
             Refusal::Legacy => (39, b"legacy"),
+            Refusal::Buffered { .. } => (40, b"buffered"),
+            Refusal::Flying => (41, b"flying"),
             // end rows
         }
     }
 
-    /// Returns the number of the refusal in C: 1 to 39.
+    /// Returns the number of the refusal in C: 1 to 41.
     pub fn number(self) -> u8
         ensures number { result ≡ refusal_number self }
-        ensures range { (0 < result) × (result ≤ 39) }
+        ensures range { (0 < result) × (result ≤ 41) }
     {
         self.row().0
     }
@@ -142,7 +146,7 @@ impl Refusal {
                 Some(i64::from(count))
             }
             Refusal::Room { inside } => Some(i64::from(inside)),
-            Refusal::Sleeping { queued } => Some(i64::from(queued)),
+            Refusal::Sleeping { queued } | Refusal::Buffered { queued } => Some(i64::from(queued)),
             Refusal::Debt { deficit } => Some(deficit),
             Refusal::Ahead { owed } => Some(i64::from(owed)),
             // end number

@@ -63,6 +63,10 @@ pub struct Config {
     /// Which rates a station may have: those of HT, VHT and HE with 0, also of OFDM with 1, and also of
     /// OFDM and DSSS with 2.
     pub legacy: u32,
+    /// The DTIM period: the number of beacons from one DTIM beacon to the next. 0 means 1.
+    pub period: u32,
+    /// The most group frames that are queued. With 0 none is accepted.
+    pub buffered: u32,
     // end fields
 }
 
@@ -122,11 +126,15 @@ pub enum Field {
     Credits,
     /// Which rates a station may have: HT, VHT and HE; with 1 also OFDM; with 2 also OFDM and DSSS.
     Legacy,
+    /// DTIM period: the number of beacons from one DTIM beacon to the next; 0 means 1.
+    Period,
+    /// Group frames that may be queued; with 0 none is accepted.
+    Buffered,
     // end variants
 }
 
 // The settings, in the order in which they are checked.
-const FIELDS: [Field; 25] = [
+const FIELDS: [Field; 27] = [
     // begin list: tools/tables writes these lines
     Field::Stations,
     Field::Flows,
@@ -153,12 +161,14 @@ const FIELDS: [Field; 25] = [
     Field::Answers,
     Field::Credits,
     Field::Legacy,
+    Field::Period,
+    Field::Buffered,
     // end list
 ];
 
 impl Field {
     /// Returns the settings, in the order in which they are checked.
-    pub fn all() -> [Field; 25]
+    pub fn all() -> [Field; 27]
         ensures { result ≡ fields }
     {
         FIELDS
@@ -170,7 +180,7 @@ impl Field {
         ensures word { result.1.now ≡ setting_word self }
         ensures least { result.2 ≡ lowest_of self }
         ensures greatest { result.3 ≡ greatest_of self }
-        ensures numbered { (1 ≤ result.0) × (result.0 ≤ 25) }
+        ensures numbered { (1 ≤ result.0) × (result.0 ≤ 27) }
         ensures short { length result.1.now ≤ 12 }
     {
         match self {
@@ -200,14 +210,16 @@ impl Field {
             Field::Answers => (23, b"answers", 0, 1),
             Field::Credits => (24, b"credits", 0, 1),
             Field::Legacy => (25, b"legacy", 0, 2),
+            Field::Period => (26, b"period", 0, 255),
+            Field::Buffered => (27, b"buffered", 0, 65_535),
             // end rows
         }
     }
 
-    /// Returns the number of the setting in C: 1 to 25.
+    /// Returns the number of the setting in C: 1 to 27.
     pub fn number(self) -> u8
         ensures number { result ≡ setting_number self }
-        ensures range { (1 ≤ result) × (result ≤ 25) }
+        ensures range { (1 ≤ result) × (result ≤ 27) }
     {
         self.row().0
     }
@@ -292,6 +304,8 @@ impl Field {
             Field::Answers => config.answers,
             Field::Credits => config.credits,
             Field::Legacy => config.legacy,
+            Field::Period => config.period,
+            Field::Buffered => config.buffered,
             // end value
         }
     }
@@ -327,6 +341,8 @@ impl Field {
             Field::Answers => config.answers = value,
             Field::Credits => config.credits = value,
             Field::Legacy => config.legacy = value,
+            Field::Period => config.period = value,
+            Field::Buffered => config.buffered = value,
             // end set
         }
     }
@@ -364,6 +380,8 @@ impl Config {
             answers: 0,
             credits: 0,
             legacy: 0,
+            period: 0,
+            buffered: 0,
             // end standard
         }
     }
@@ -401,6 +419,8 @@ impl Config {
             answers: 0,
             credits: 1,
             legacy: 0,
+            period: 0,
+            buffered: 0,
             // end device
         }
     }

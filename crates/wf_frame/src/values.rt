@@ -2,13 +2,13 @@
 
 ghost use Rattle.std.specs.Prelude.{◌≡◌, ◌≤◌, [], ◌∷◌, length, Some};
 ghost use Rattle.wf_frame.specs.declared.notes.Note.TheVariants.{Asked};
-ghost use Rattle.wf_frame.specs.declared.notes.Ask.TheVariants.{Join, Rate, Pull, Arrive, Done};
+ghost use Rattle.wf_frame.specs.declared.notes.Ask.TheVariants.{Join, Rate, Pull, Arrive, Done, Group};
 ghost use Rattle.wf_frame.specs.declared.calls.Argument.TheVariants.{Station, Exchange, Index};
-ghost use Rattle.wf_frame.specs.Calls.{note_form, form_of_rate, form_of_limits, limits, note_values, note_made, enqueued, ask_of, arguments_of, IsPrintable, NumbersAreInRange};
+ghost use Rattle.wf_frame.specs.Calls.{note_form, form_of_rate, form_of_limits, limits, form_of_group, values_of_group, note_values, note_made, enqueued, ask_of, arguments_of, IsPrintable, NumbersAreInRange};
 
 use crate::Class;
 use crate::calls::{CallForm, RateFormat, Value};
-use crate::notes::{Ask, AskedRate, Limits, Note};
+use crate::notes::{Ask, AskedRate, GroupAsk, Limits, Note};
 use arrayvec::ArrayVec;
 
 impl Note {
@@ -90,6 +90,7 @@ impl Ask {
             Ask::Begin { .. } => CallForm::Begin,
             Ask::Free { .. } => CallForm::Free,
             Ask::Cease { .. } => CallForm::Cease,
+            Ask::Group(ask) => ask.form(),
         }
     }
 
@@ -169,6 +170,32 @@ impl Ask {
             Ask::Weight { station, weight } => {
                 listed(&[Value::Short(station), Value::Octet(weight)])
             }
+            Ask::Group(ask) => ask.values(),
+        }
+    }
+}
+
+impl GroupAsk {
+    // The form of its line.
+    fn form(self) -> CallForm
+        ensures { result ≡ form_of_group self }
+    {
+        match self {
+            GroupAsk::Accept { .. } => CallForm::Group,
+            GroupAsk::Beacon => CallForm::Beacon,
+            GroupAsk::Pull => CallForm::Gpull,
+            GroupAsk::Done => CallForm::Gdone,
+        }
+    }
+
+    // The values of its arguments, in order.
+    fn values(self) -> ArrayVec<Value, 6>
+        ensures values { result.items ≡ values_of_group self }
+        ensures range { IsPrintable (Asked (Group self)) → NumbersAreInRange (Asked (Group self)) }
+    {
+        match self {
+            GroupAsk::Accept { len } => listed(&[Value::Short(len)]),
+            GroupAsk::Beacon | GroupAsk::Pull | GroupAsk::Done => listed(&[]),
         }
     }
 }
@@ -376,7 +403,6 @@ fn ask_made(form: CallForm, values: &[Value]) -> Option<Ask>
         CallForm::Done => done(values),
         CallForm::DoneAir => done_air(values),
         CallForm::Rx => rx(values),
-        CallForm::Reap => reap(values),
         CallForm::Ampdu => ampdu(values),
         CallForm::Flush => flush(values),
         CallForm::Offload => offload(values),
@@ -386,6 +412,10 @@ fn ask_made(form: CallForm, values: &[Value]) -> Option<Ask>
         CallForm::Begin => begin(values),
         CallForm::Free => free(values),
         CallForm::Cease => cease(values),
+        CallForm::Group => group(values),
+        CallForm::Reap | CallForm::Beacon | CallForm::Gpull | CallForm::Gdone => {
+            without_values(form, values)
+        }
     }
 }
 
@@ -429,27 +459,6 @@ fn rated(station: u16, rate: AskedRate) -> Ask
     ensures { result ≡ Rate station rate }
 {
     Ask::Rate { station, rate }
-}
-
-// A Pull call.
-fn pulled(class: Class, frames: Option<u32>, air: Option<u32>) -> Ask
-    ensures { result ≡ Pull class (limits frames air) }
-{
-    Ask::Pull {
-        class,
-        limits: Limits { frames, air },
-    }
-}
-
-// A Done call.
-fn ended(exchange: u64, heard: bool, air: Option<u32>) -> Ask
-    ensures { result ≡ Done exchange heard air }
-{
-    Ask::Done {
-        exchange,
-        heard,
-        air,
-    }
 }
 
 // The Join call with these values.
@@ -589,30 +598,45 @@ fn dsss(values: &[Value]) -> Option<Ask>
 fn pull(values: &[Value]) -> Option<Ask>
     ensures { result ≡ ask_of CallForm.Pull values.now }
 {
-    let [Value::Class(class)] = values else {
+    let [Value::Class(class)] = *values else {
         return None;
     };
-    Some(pulled(*class, None, None))
+    Some(Ask::Pull {
+        class,
+        limits: Limits::NONE,
+    })
 }
 
 // The Pull call with these values, which include a limit on frames.
 fn pull_frames(values: &[Value]) -> Option<Ask>
     ensures { result ≡ ask_of CallForm.PullFrames values.now }
 {
-    let [Value::Class(class), Value::Frames, Value::Long(frames)] = values else {
+    let [Value::Class(class), Value::Frames, Value::Long(frames)] = *values else {
         return None;
     };
-    Some(pulled(*class, Some(*frames), None))
+    Some(Ask::Pull {
+        class,
+        limits: Limits {
+            frames: Some(frames),
+            air: None,
+        },
+    })
 }
 
 // The Pull call with these values, which include a limit on the data's airtime.
 fn pull_air(values: &[Value]) -> Option<Ask>
     ensures { result ≡ ask_of CallForm.PullAir values.now }
 {
-    let [Value::Class(class), Value::Air, Value::Long(air)] = values else {
+    let [Value::Class(class), Value::Air, Value::Long(air)] = *values else {
         return None;
     };
-    Some(pulled(*class, None, Some(*air)))
+    Some(Ask::Pull {
+        class,
+        limits: Limits {
+            frames: None,
+            air: Some(air),
+        },
+    })
 }
 
 // The Pull call with these values, which include both limits.
@@ -625,11 +649,17 @@ fn pull_limited(values: &[Value]) -> Option<Ask>
         Value::Long(frames),
         Value::Air,
         Value::Long(air),
-    ] = values
+    ] = *values
     else {
         return None;
     };
-    Some(pulled(*class, Some(*frames), Some(*air)))
+    Some(Ask::Pull {
+        class,
+        limits: Limits {
+            frames: Some(frames),
+            air: Some(air),
+        },
+    })
 }
 
 // The Tick call with these values.
@@ -650,16 +680,6 @@ fn answer(values: &[Value]) -> Option<Ask>
         return None;
     };
     Some(Ask::Answer { exchange })
-}
-
-// The Reap call, which has no values.
-fn reap(values: &[Value]) -> Option<Ask>
-    ensures { result ≡ ask_of CallForm.Reap values.now }
-{
-    let [] = values else {
-        return None;
-    };
-    Some(Ask::Reap)
 }
 
 // The Ampdu call with these values.
@@ -781,14 +801,45 @@ fn cease(values: &[Value]) -> Option<Ask>
     Some(Ask::Cease { station, tid })
 }
 
+// The call with these values that accepts a group frame.
+fn group(values: &[Value]) -> Option<Ask>
+    ensures { result ≡ ask_of CallForm.Group values.now }
+{
+    let [Value::Short(len)] = *values else {
+        return None;
+    };
+    Some(Ask::Group(GroupAsk::Accept { len }))
+}
+
+// The call of this form, which has no values.
+fn without_values(form: CallForm, values: &[Value]) -> Option<Ask>
+    requires { arguments_of form ≡ [] }
+    ensures { result ≡ ask_of form values.now }
+{
+    let [] = values else {
+        return None;
+    };
+    match form {
+        CallForm::Reap => Some(Ask::Reap),
+        CallForm::Beacon => Some(Ask::Group(GroupAsk::Beacon)),
+        CallForm::Gpull => Some(Ask::Group(GroupAsk::Pull)),
+        CallForm::Gdone => Some(Ask::Group(GroupAsk::Done)),
+        _ => None,
+    }
+}
+
 // The Done call with these values, which include no airtime.
 fn done(values: &[Value]) -> Option<Ask>
     ensures { result ≡ ask_of CallForm.Done values.now }
 {
-    let [Value::Exchange(exchange), Value::Heard(heard)] = values else {
+    let [Value::Exchange(exchange), Value::Heard(heard)] = *values else {
         return None;
     };
-    Some(ended(*exchange, *heard, None))
+    Some(Ask::Done {
+        exchange,
+        heard,
+        air: None,
+    })
 }
 
 // The Done call with these values, which include an airtime.
@@ -799,12 +850,16 @@ fn done_air(values: &[Value]) -> Option<Ask>
         Value::Exchange(exchange),
         Value::Heard(heard),
         Value::Air,
-        Value::Long(air),
-    ] = values
+        Value::Long(measured),
+    ] = *values
     else {
         return None;
     };
-    Some(ended(*exchange, *heard, Some(*air)))
+    Some(Ask::Done {
+        exchange,
+        heard,
+        air: Some(measured),
+    })
 }
 
 // The Rx call with these values.
