@@ -4,6 +4,7 @@ mod Rows
 mod Texts
 mod NearMisses
 mod LegacyRows
+mod GroupRows
 mod Charges
 pub mod Longest
 pub mod Fitting

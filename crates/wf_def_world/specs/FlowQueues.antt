@@ -8,7 +8,7 @@ use Rattle.wf_frame.specs.declared.settings.Config.{Config}
 use Rattle.wf_frame.specs.declared.classes.Cause.TheVariants.{Overlimit, Codel as By_codel, Left, Flushed}
 use Rattle.wf_frame.specs.declared.classes.Fate.TheVariants.{Dropped}
 use Rattle.wf_def_lists.specs.Table.{at, upto}
-use Rattle.wf_def_codel.specs.Codel.{Item, Codel, new_codel, octets, Dequeued, dequeue}
+use Rattle.wf_def_codel.specs.Codel.{Item, Codel, renewed, octets, Dequeued, dequeue}
 use Rattle.wf_def_rotation.specs.Rotation.{has_key, in_order, with_new_key, need_of, Picked, pick}
 use Rattle.wf_def_world.specs.World.{World, Queue, new_queue, flow_of, tid_of, queue, frame, on_queue, with_queues, with_frame_finished, with_frames_finished, codel_params, live_stations}
 
@@ -179,10 +179,10 @@ taken_for_tid w s t =
     let paid : World = with_queues_paid w p.quanta (in_order (tid_of w s t).queues) in
     taken_from_picked (with_queues paid s t p.lists) s p.winner
 
--- the frames of queue q are dropped as Left, and its CoDel state becomes new
+-- the frames of queue q are dropped as Left, and its CoDel state becomes new, but keeps its number of drops
 unfoldable pub after_queue_left : World → ℕ → World
 after_queue_left w q =
-    let emptied : World = on_queue w q (λ y. record y { items = []; codel = new_codel }) in
+    let emptied : World = on_queue w q (λ y. record y { items = []; codel = renewed y.codel }) in
     with_frames_finished emptied (Dropped Left) (map (λ x. x.id) (queue w q).items)
 
 -- the same for each of these queues, in order

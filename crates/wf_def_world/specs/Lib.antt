@@ -1,4 +1,5 @@
 -- Lists the modules of specs/ of wf_def_world.
+pub mod Group
 pub mod World
 pub mod FlowQueues
 pub mod CanSend

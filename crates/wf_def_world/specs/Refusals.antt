@@ -5,18 +5,21 @@ use Rattle.std.specs.List.{list_any}
 use Rattle.wf_frame.specs.Settings.{is_bad_air}
 use Rattle.wf_frame.specs.declared.classes.Class.{Class}
 use Rattle.wf_frame.specs.declared.notes.Ask.{Ask}
-use Rattle.wf_frame.specs.declared.notes.Ask.TheVariants.{Join, Leave, Rate, Tick, Pull, Arrive, Answer, Done, Sleep, Wake, Poll, Rx, Reap, Ampdu, Stop, Start, Unsent, GiveUp, Flush, Offload, Weight, Hold, Begin, Free, Cease}
+use Rattle.wf_frame.specs.declared.notes.Ask.TheVariants.{Join, Leave, Rate, Tick, Pull, Arrive, Answer, Done, Sleep, Wake, Poll, Rx, Reap, Ampdu, Stop, Start, Unsent, GiveUp, Flush, Offload, Weight, Hold, Begin, Free, Cease, Group}
 use Rattle.wf_frame.specs.declared.notes.Ask.TheVariants as call
+use Rattle.wf_frame.specs.declared.notes.GroupAsk.{GroupAsk}
+use Rattle.wf_frame.specs.declared.notes.GroupAsk.TheVariants as group
 use Rattle.wf_frame.specs.declared.notes.Note.{Note}
 use Rattle.wf_frame.specs.declared.notes.Note.TheVariants.{Enqueue, Asked}
 use Rattle.wf_frame.specs.declared.notes.Refusal.{Refusal}
-use Rattle.wf_frame.specs.declared.notes.Refusal.TheVariants.{BadStation, BadWindow, BadStart, BadExponent, BadRate, BadTick, BadTid, BadAir, BadIndex, Live, NoStation, NoExchange, NoAnswer, Open, Room, Sleeping, Full, Idle, Answered, Arrived, Nothing, Asleep, Awake, Polled, Debt, BadWeight, Ahead, BadAmpdu, Stopped, Started, Marked, Offloaded, Agreed, Held, NotHeld, NotAgreed, Waits, Legacy}
+use Rattle.wf_frame.specs.declared.notes.Refusal.TheVariants.{BadStation, BadWindow, BadStart, BadExponent, BadRate, BadTick, BadTid, BadAir, BadIndex, Live, NoStation, NoExchange, NoAnswer, Open, Room, Sleeping, Full, Idle, Answered, Arrived, Nothing, Asleep, Awake, Polled, Debt, BadWeight, Ahead, BadAmpdu, Stopped, Started, Marked, Offloaded, Agreed, Held, NotHeld, NotAgreed, Waits, Legacy, Buffered, Flying}
 use Rattle.wf_def_lists.specs.Table.{has, upto}
 use Rattle.wf_def_lists.specs.Bounds.{greatest_window, greatest_start, greatest_exponent, greatest_weight, greatest_tid, greatest_tick, greatest_air, least_ampdu, greatest_ampdu, deepest_deficit}
 use Rattle.wf_def_air.specs.Airtime.{is_single}
 use Rattle.wf_def_agreement.specs.Session.{waiting_numbers}
 use Rattle.wf_def_world.specs.Rates.{rate_asked, is_rate_with}
-use Rattle.wf_def_world.specs.World.{World, Exchange, station, session, is_offloaded, is_agreed, is_held_back, is_live, inside, share, exchange, owed_by_all}
+use Rattle.wf_def_world.specs.Group.{may_go}
+use Rattle.wf_def_world.specs.World.{World, Exchange, station, session, is_offloaded, is_agreed, is_held_back, is_live, inside, is_any_asleep, share, exchange, owed_by_all}
 use Rattle.wf_frame.specs.Classes.{same_class, lower_tid, upper_tid, class_of}
 use Rattle.wf_def_world.specs.FlowQueues.{frames_queued}
 use Rattle.wf_def_world.specs.CanSend.{can_send, can_send_in}
@@ -86,7 +89,20 @@ abbrev pub exchange_has : Option Exchange → (Exchange → Bool) → Bool
 exchange_has None p = false
 exchange_has (Some x) p = p x
 
--- the rows of a call that brings no frame, in order
+-- the number of group frames that are queued
+abbrev pub group_queued : World → ℕ
+group_queued w = length w.group.queued
+
+-- the rows of a call about group frames, in order
+abbrev pub group_refusals : World → GroupAsk → List (Bool × Refusal)
+group_refusals w (group.Accept len) = (
+    (nat_le w.config.buffered (group_queued w), Buffered (group_queued w)) ∷ [])
+group_refusals w group.Beacon = []
+group_refusals w group.Pull = (
+    (is_some w.group.flying, Flying) ∷ (not (may_go (is_any_asleep w) w.group), Idle) ∷ [])
+group_refusals w group.Done = ((is_none w.group.flying, Nothing) ∷ [])
+
+-- the rows of a call that brings no frame for a station, in order
 abbrev pub refusals_of : World → Ask → List (Bool × Refusal)
 refusals_of w (Join s window start exponent weight) = (
     (is_bad_station w s, BadStation) ∷ (not (is_within 1 greatest_window window), BadWindow)
@@ -181,6 +197,7 @@ refusals_of w (GiveUp e i) = (
     (exchange_has (exchange w e) (λ x. is_marked x i), Marked) ∷ [])
 refusals_of w (Flush s t) = (
     (is_bad_station w s, BadStation) ∷ (nat_lt greatest_tid t, BadTid) ∷ (not (is_live w s), NoStation) ∷ [])
+refusals_of w (Group ask) = group_refusals w ask
 
 -- the rows of a call, in order
 abbrev pub refusals : World → Note → List (Bool × Refusal)

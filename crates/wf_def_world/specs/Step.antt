@@ -4,8 +4,9 @@ use Rattle.wf_frame.specs.declared.classes.Class.{Class}
 use Rattle.wf_frame.specs.declared.classes.Class.TheVariants.{Bk, Be, Vi, Vo}
 use Rattle.wf_frame.specs.declared.classes.Cause.TheVariants.{Left, Flushed, Ended}
 use Rattle.wf_frame.specs.declared.classes.Fate.TheVariants.{Held, Dropped}
-use Rattle.wf_frame.specs.declared.notes.Ask.TheVariants.{Join, Leave, Rate, Tick, Pull, Arrive, Answer, Done, Sleep, Wake, Poll, Rx, Reap, Ampdu, Stop, Start, Unsent, GiveUp, Flush, Offload, Weight, Hold, Begin, Free, Cease}
+use Rattle.wf_frame.specs.declared.notes.Ask.TheVariants.{Join, Leave, Rate, Tick, Pull, Arrive, Answer, Done, Sleep, Wake, Poll, Rx, Reap, Ampdu, Stop, Start, Unsent, GiveUp, Flush, Offload, Weight, Hold, Begin, Free, Cease, Group}
 use Rattle.wf_frame.specs.declared.notes.Ask.TheVariants as call
+use Rattle.wf_frame.specs.declared.notes.GroupAsk.{GroupAsk}
 use Rattle.wf_frame.specs.declared.notes.Limits.{Limits}
 use Rattle.wf_frame.specs.declared.notes.AskedRate.{AskedRate}
 use Rattle.wf_frame.specs.declared.notes.Note.{Note}
@@ -24,7 +25,8 @@ use Rattle.wf_def_agreement.specs.Session.{Slot, State, next_number, is_acknowle
 use Rattle.wf_def_agreement.specs.Receiver.{Receiver, Score, score, bitmap_word, released_between}
 use Rattle.wf_def_world.specs.Rates.{rate_asked}
 use Rattle.wf_frame.specs.declared.settings.Config.{Config}
-use Rattle.wf_def_world.specs.World.{World, Mode, Agreed, Station, Share, Exchange, new_share, quantum, pending_air, new_tid, session, receiver, share, tid_of, rotation, frame, accepted_count, is_wide, exchange, with_bounds, with_station, on_station, on_share, on_session, on_receiver, with_rotation, with_mode, with_queues, with_exchange, without_exchange, with_frames_finished}
+use Rattle.wf_def_world.specs.Group.{group_after, group_answer}
+use Rattle.wf_def_world.specs.World.{World, Mode, Agreed, Station, Share, Exchange, new_share, quantum, pending_air, new_tid, session, receiver, share, tid_of, rotation, frame, accepted_count, is_wide, is_any_asleep, exchange, with_bounds, with_station, on_station, on_share, on_session, on_receiver, with_rotation, with_mode, with_queues, with_exchange, without_exchange, with_frames_finished}
 use Rattle.wf_frame.specs.Classes.{all_classes}
 use Rattle.wf_def_world.specs.FlowQueues.{dropped_for_limit, after_limit, queue_for, after_put_in, after_queues_left, after_queues_flushed}
 use Rattle.wf_def_world.specs.CanSend.{can_send_in, with_listings_of}
@@ -385,6 +387,15 @@ reap_outcome w [] = unreached w
 reap_outcome w (id ∷ ids) =
     record { world = record w { finished = ids }; reply = Reaped id (frame w id).fate }
 
+-- ---- group frames
+
+-- A call about group frames: it changes nothing but their state.
+abbrev pub group_outcome : World → GroupAsk → Outcome
+group_outcome w ask = record {
+  world = record w { group = group_after w.config ask w.group };
+  reply = reply.Group (group_answer w.config (is_any_asleep w) ask w.group);
+}
+
 -- ---- the step
 
 -- the outcome of a call that is not refused
@@ -418,6 +429,7 @@ outcome_of w (Asked (Start s)) = start_outcome w s
 outcome_of w (Asked (Unsent e i)) = outcome_where_open w (exchange w e) (λ x. unsent_outcome w x i)
 outcome_of w (Asked (GiveUp e i)) = outcome_where_open w (exchange w e) (λ x. give_up_outcome w x i)
 outcome_of w (Asked (Flush s t)) = flush_outcome w s t
+outcome_of w (Asked (Group ask)) = group_outcome w ask
 
 -- the station of an exchange, if the exchange is open
 abbrev pub station_of : Option Exchange → Option ℕ
@@ -454,6 +466,7 @@ concerned_station w (Asked (Hold s t)) = Some s
 concerned_station w (Asked (Begin s t window)) = Some s
 concerned_station w (Asked (Free s t)) = Some s
 concerned_station w (Asked (Cease s t)) = Some s
+concerned_station w (Asked (Group ask)) = None
 
 -- The world after a refusal. Only Idle without the setting `pending` changes it: the pick found no ready
 -- station, gave the listed ones their quanta, and emptied the lists of the class.

@@ -10,12 +10,15 @@ use Rattle.wf_frame.specs.declared.classes.Fate.{Fate}
 use Rattle.wf_frame.specs.declared.classes.Fate.TheVariants.{Held, Acked, Dropped}
 use Rattle.wf_frame.specs.declared.notes.Part.{Part}
 use Rattle.wf_frame.specs.declared.notes.Part.TheVariants.{Mpdus, Batch, Plain, Request}
+use Rattle.wf_frame.specs.declared.notes.GroupReply.{GroupReply}
+use Rattle.wf_frame.specs.declared.notes.GroupReply.TheVariants as group
 use Rattle.wf_frame.specs.declared.notes.Refusal.{Refusal}
 use Rattle.wf_frame.specs.declared.notes.ReplyNote.{ReplyNote}
 use Rattle.wf_frame.specs.declared.notes.ReplyNote.TheVariants.{Joined, Set, Now, Accepted, Send, Released, Ba, Done, Slept, Woken, Polled, Charged, Reaped, Stopped, Started, Marked, Ack, Begun, Freed, Ceased, Refused}
 use Rattle.wf_frame.specs.declared.notes.ReplyNote.TheVariants as reply
 use Rattle.wf_frame.specs.declared.settings.Config.{Config}
-use Rattle.wf_def_tim.specs.Tim.{tim_element}
+use Rattle.wf_def_tim.specs.Tim.{tim_element, with_group_bit}
+use Rattle.wf_def_world.specs.Group.{dtim_period, held_count}
 use Rattle.wf_def_world.specs.World.{World, Share, share, station, live_stations, accepted_count, opening}
 use Rattle.wf_frame.specs.Classes.{all_classes, class_word, fate_word}
 use Rattle.wf_frame.specs.Refusals.{refusal_word, number_told}
@@ -57,6 +60,22 @@ dropped_words (Some id) = codes "dropped" ∷ decimal id ∷ []
 abbrev pub score_digits : ℕ → ℕ → ℕ → ℕ → Bool → List ℕ
 score_digits b0 b1 b2 b3 wide = if wide then hex 16 b3 ++ hex 16 b2 ++ hex 16 b1 ++ hex 16 b0 else hex 16 b0
 
+-- the word for a bit
+abbrev pub bit_word : Bool → List ℕ
+bit_word bit = if bit then codes "1" else codes "0"
+
+-- the word for the More Data bit, if it is set
+abbrev pub more_words : Bool → List (List ℕ)
+more_words more = if more then codes "more" ∷ [] else []
+
+-- the words of the answer to a call about group frames
+abbrev pub group_words : GroupReply → List (List ℕ)
+group_words (group.Queued id) = codes "queued" ∷ decimal id ∷ []
+group_words (group.Beacon count follows) = codes "beacon" ∷ decimal count ∷ bit_word follows ∷ []
+group_words (group.Send id number air more) =
+    codes "gsend" ∷ decimal id ∷ decimal number ∷ codes "air" ∷ decimal air ∷ [] ++ more_words more
+group_words (group.Done id) = codes "gdone" ∷ decimal id ∷ []
+
 -- the words of a reply
 abbrev pub reply_words : ReplyNote → List (List ℕ)
 reply_words Joined = codes "joined" ∷ []
@@ -87,6 +106,7 @@ reply_words (reply.Held start) = codes "held" ∷ decimal start ∷ []
 reply_words Begun = codes "begun" ∷ []
 reply_words Freed = codes "freed" ∷ []
 reply_words (Ceased dropped ids) = codes "ceased" ∷ decimal dropped ∷ map decimal ids
+reply_words (reply.Group answer) = group_words answer
 reply_words (Refused refusal) = codes "refused" ∷ refusal_words refusal
 
 -- the answer line of a reply
@@ -141,9 +161,23 @@ share_line s c x =
 abbrev pub share_lines : World → ℕ → List ℕ
 share_lines w s = concat (map (λ c. share_line s c (share w s c)) all_classes)
 
--- the TIM element with these AIDs; every beacon has DTIM count 0 and period 1
+-- line 6, if the setting `buffered` allows group frames: how many were accepted, sent and are held, and the
+-- airtime of those that were sent, in microseconds
+abbrev pub group_line : World → List ℕ
+group_line w =
+    if w.config.buffered == 0 then []
+    else line (codes "group" ∷ decimal w.group.accepted ∷ codes "sent" ∷ decimal w.group.sent ∷
+    codes "held" ∷ decimal (held_count w.group) ∷ codes "air" ∷ decimal w.group.air ∷ [])
+
+-- the TIM element with these AIDs of a path without group frames: each of its beacons is a DTIM beacon
 abbrev pub traffic_map : List ℕ → List ℕ
 traffic_map aids = tim_element 0 1 aids
+
+-- the TIM element with these AIDs and what the latest beacon said: its DTIM count and period, and whether it
+-- announced group frames
+abbrev pub beacon_map : World → List ℕ → List ℕ
+beacon_map w aids =
+    with_group_bit w.group.announced (tim_element w.group.count (dtim_period w.config.period) aids)
 
 -- the AIDs of the live stations that sleep and have traffic, rising: station s has AID s + 1
 abbrev pub with_traffic : World → List ℕ
@@ -156,7 +190,8 @@ summary w calls =
     ++ line (tally_words w)
     ++ line (codes "exchanges" ∷ decimal w.exchanges ∷ codes "open" ∷ decimal (length w.opened) ∷ [])
     ++ concat (map (share_lines w) (live_stations w))
-    ++ line (codes "tim" ∷ concat (map (hex 2) (traffic_map (with_traffic w))) ∷ [])
+    ++ group_line w
+    ++ line (codes "tim" ∷ concat (map (hex 2) (beacon_map w (with_traffic w))) ∷ [])
 
 -- the answer lines of a history's replies, in order
 abbrev pub answer_lines : Config → List Entry → List ℕ

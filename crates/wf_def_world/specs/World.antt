@@ -2,6 +2,7 @@
 -- in microseconds, lengths and queues' deficits in octets. Sequence numbers do not wrap here; on the air they
 -- are modulo 4096.
 use Rattle.std.specs.Prelude.{ℕ, ◌+◌, ◌*◌, ◌==◌, nat_lt, ℤ, pos, ◌-ℤ◌, Bool, true, false, not, ◌&&◌, ◌||◌, List, [], ◌∷◌, ◌++◌, Option, None, is_some, unwrap_or, option_map, if◌then◌else◌, length, map, filter, find, count_by}
+use Rattle.std.specs.List.{list_any}
 use Rattle.wf_frame.specs.declared.settings.Config.{Config}
 use Rattle.wf_frame.specs.declared.classes.Class.{Class}
 use Rattle.wf_frame.specs.Classes.{class_number, same_class}
@@ -18,6 +19,7 @@ use Rattle.wf_def_codel.specs.Parameters.{params_at}
 use Rattle.wf_def_rotation.specs.Rotation.{Rotation, no_keys}
 use Rattle.wf_def_agreement.specs.Session.{Session, new_session}
 use Rattle.wf_def_agreement.specs.Receiver.{Receiver, new_receiver, Score}
+use Rattle.wf_def_world.specs.Group.{GroupState, no_group}
 
 -- A station in one class: its deficit and, since its join, the number of quanta that it was given and
 -- the airtime that it was charged, for exchanges (`charged`) and for its own transmissions (`received`).
@@ -176,6 +178,7 @@ pub record World : Type 0 where
   pub frames : List Frame  -- by id
   pub finished : List ℕ  -- the ids of frames with a fate that are not reaped, in the order of their fates
   pub bounds : Bounds  -- those of the latest pull
+  pub group : GroupState  -- the group frames and the beacons, which only the calls about them change
 
 -- the world before the first call
 abbrev pub opening : Config → World
@@ -190,6 +193,7 @@ opening config = record {
   frames = [];
   finished = [];
   bounds = no_bounds;
+  group = no_group;
 }
 
 -- ---- reading a world
@@ -276,6 +280,10 @@ inside w = count_by (λ f. is_held f.fate) w.frames + length w.finished
 -- the numbers of the live stations, rising
 abbrev pub live_stations : World → List ℕ
 live_stations w = filter (is_live w) (upto w.config.stations)
+
+-- whether some live station sleeps
+abbrev pub is_any_asleep : World → Bool
+is_any_asleep w = list_any (λ s. (station w s).asleep) (live_stations w)
 
 -- CoDel's parameters for the queues of station s, which depend on its rate
 abbrev pub codel_params : World → ℕ → Params
