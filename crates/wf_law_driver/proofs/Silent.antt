@@ -2,7 +2,7 @@
 use Rattle.std.proofs.Common.{◌≡◌, refl, ap, sym, ◌∙◌, subst, ℕ, ◌==◌, Bool, true, false, not, List, [], ◌∷◌, Option, Some, None, IfSome}
 use Rattle.wf_frame.specs.declared.settings.Config.{Config}
 use Rattle.wf_frame.specs.declared.classes.Class.{Class}
-use Rattle.wf_frame.specs.declared.notes.Ask.TheVariants.{Join, Leave, Rate, Tick, Pull, Arrive, Answer, Done, Sleep, Wake, Poll, Rx, Reap, Ampdu, Stop, Start, Unsent, GiveUp, Flush, Offload, Weight, Plain, Hold, Begin, Free, Cease}
+use Rattle.wf_frame.specs.declared.notes.Ask.TheVariants.{Join, Leave, Rate, Tick, Pull, Arrive, Answer, Done, Sleep, Wake, Poll, Rx, Reap, Ampdu, Stop, Start, Unsent, GiveUp, Flush, Offload, Weight, Plain, Hold, Begin, Free, Cease, Group}
 use Rattle.wf_frame.specs.declared.notes.Limits.{Limits}
 use Rattle.wf_frame.specs.declared.notes.Note.{Note}
 use Rattle.wf_frame.specs.declared.notes.Note.TheVariants.{Enqueue, Asked}
@@ -252,6 +252,7 @@ silence_done (Asked (Unsent e n)) w k i = silence_open (exchange w e) w (λ x. u
 silence_done (Asked (GiveUp e n)) w k i = silence_open (exchange w e) w (λ x. give_up_outcome w x n)
     (λ x found. silence_marked w e x x.unsent _ found)
 silence_done (Asked (Flush s t)) w k i = silence_flushed w s t
+silence_done (Asked (Group ask)) w k i = record { arrived = λ i j n h. h; marks = λ h. h }
 
 silence_refused : (note : Note) (r : Refusal) (w : World) → Silence w (after_refusal w note r)
 unfolding after_refusal

@@ -43,6 +43,10 @@ use Rattle.wf_law_runs.proofs.Offloads.Law.{offload_law}
 use Rattle.wf_law_runs.proofs.Modes.Law.{mode_law}
 use Rattle.wf_law_runs.proofs.Modes.Repeats.{repeat_law}
 use Rattle.wf_law_runs.proofs.Unsettled.Law.{unsettled_law}
+use Rattle.wf_law_runs.proofs.Groups.Apart.{apart_law}
+use Rattle.wf_law_runs.proofs.Groups.Counts.{count_law}
+use Rattle.wf_law_runs.proofs.Groups.Orders.{order_law}
+use Rattle.wf_law_runs.proofs.Groups.Beacons.{dtim_law, announced_law, more_law}
 
 pub laws : (config : Config) (history : List Entry) → IsInRange config → Laws config history
 laws config h range = record {
@@ -88,4 +92,10 @@ laws config h range = record {
   sent = sent_law config h;
   attempts = attempts_law config h range;
   tries = tries_law config h range;
+  groups_apart = apart_law;
+  group_counts = count_law config h;
+  group_order = order_law config h;
+  dtim = dtim_law config h;
+  announced = announced_law config h;
+  group_more = more_law config h;
 }

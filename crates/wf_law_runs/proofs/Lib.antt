@@ -26,6 +26,9 @@
 --   tries_law                                   Tries (Law)
 --   rotation_law                                Rotations (Law)
 --   unsettled_law                               Unsettled (Law)
+--   group_apart_law, group_count_law,           Groups (Apart, Counts, Orders, Beacons)
+--     group_order_law, dtim_law,
+--     announced_law, group_more_law
 --
 -- Each law is an invariant of worlds, or a relation between a world and a later one. For each part of a
 -- call, a lemma with the name of this part proves that the part keeps it. Further lemmas prove the same for
@@ -52,6 +55,7 @@ pub mod Attempts
 mod Tries
 mod Rotations
 mod Unsettled
+pub mod Groups
 mod Orders
 mod Witnesses
 pub mod AllLaws

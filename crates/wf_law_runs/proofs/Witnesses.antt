@@ -15,3 +15,4 @@ pub mod Tries
 pub mod Weights
 pub mod Offloads
 pub mod Modes
+pub mod Groups

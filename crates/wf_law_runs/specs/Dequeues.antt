@@ -17,7 +17,7 @@ use Rattle.wf_frame.specs.declared.notes.Limits.{Limits}
 use Rattle.wf_frame.specs.declared.notes.Note.{Note}
 use Rattle.wf_frame.specs.declared.notes.Note.TheVariants.{Enqueue, Asked}
 use Rattle.wf_def_lists.specs.Table.{upto}
-use Rattle.wf_def_codel.specs.Codel.{Codel, new_codel, Item}
+use Rattle.wf_def_codel.specs.Codel.{Codel, new_codel, renewed, Item}
 use Rattle.wf_def_rotation.specs.Rotation.{has_key}
 use Rattle.wf_def_agreement.specs.Session.{request_due}
 use Rattle.wf_def_world.specs.World.{World, Mpdu, opening, with_bounds, session, tid_of, queue, codel_params, frame}
@@ -96,9 +96,13 @@ pub record Visits : Type 0 where
   pub start : Codel
   pub dequeues : List Dequeue
 
--- The visits of a queue that has a new CoDel state.
+-- The visits of a queue at the start.
 abbrev pub no_visits : Visits
 no_visits = record { start = new_codel; dequeues = [] }
+
+-- Returns the visits of a queue whose station left.
+abbrev pub renewed_visits : Visits → Visits
+renewed_visits x = record { start = renewed (codel_after_all x.start x.dequeues); dequeues = [] }
 
 -- Returns the visits of a queue whose CoDel state is calmed.
 abbrev pub calmed_visits : Visits → Visits
@@ -117,7 +121,7 @@ becomes_listed w s t flow q = (queue_for w s t flow == q) && not (has_key (tid_o
 abbrev pub visits_done : World → ℕ → Note → Visits → Visits
 visits_done w q (Enqueue s t flow len) x =
     if (w.config.codel_reset == 1) && becomes_listed (after_limit w) s t flow q then calmed_visits x else x
-visits_done w q (Asked (Leave s)) x = if lists_queue w s q then no_visits else x
+visits_done w q (Asked (Leave s)) x = if lists_queue w s q then renewed_visits x else x
 visits_done w q (Asked (Pull c l)) x = record x { dequeues = x.dequeues ++ dequeues_of_pull w c l q }
 visits_done w q _ x = x
 

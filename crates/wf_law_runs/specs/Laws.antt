@@ -32,6 +32,7 @@ use Rattle.wf_law_runs.specs.Rotations.{RotationLaw}
 use Rattle.wf_law_runs.specs.Offloads.{OffloadLaw}
 use Rattle.wf_law_runs.specs.Modes.{ModeLaw, RepeatLaw}
 use Rattle.wf_law_runs.specs.Unsettled.{UnsettledLaw}
+use Rattle.wf_law_runs.specs.Groups.{GroupApartLaw, GroupCountLaw, GroupOrderLaw, DtimLaw, AnnouncedLaw, GroupMoreLaw}
 
 -- The laws of a history.
 pub record Laws (config : Config) (history : List Entry) : Type 0 where
@@ -112,3 +113,13 @@ pub record Laws (config : Config) (history : List Entry) : Type 0 where
   -- How often a number is sent without being acknowledged, and how often a frame is sent in the whole run.
   pub attempts : AttemptsLaw config history
   pub tries : TriesLaw config history
+  -- Calls about group frames are apart from all others. The counts of group frames add up, and they are sent
+  -- in the order of their ids.
+  pub groups_apart : GroupApartLaw
+  pub group_counts : GroupCountLaw config history
+  pub group_order : GroupOrderLaw config history
+  -- Which beacon announces a group frame that is sent while a station sleeps, when a beacon announces group
+  -- frames, and which of them have the More Data bit.
+  pub dtim : DtimLaw config history
+  pub announced : AnnouncedLaw config history
+  pub group_more : GroupMoreLaw config history

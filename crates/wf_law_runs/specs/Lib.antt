@@ -30,3 +30,4 @@ pub mod Tries
 pub mod Offloads
 pub mod Modes
 pub mod Unsettled
+pub mod Groups

@@ -24,11 +24,12 @@ pub record IsStation (config : Config) (w : World) (s : ℕ) : Type 0 where
   pub both : (t : ℕ) → (receiver w s t).size ≡ (session w s t).size
 
 -- CoDel's counts: the count is at least 1 while CoDel drops, so the control law can compute the next drop,
--- and both counts fit 32 bits.
+-- and the counts and the number of drops fit 32 bits.
 pub record CountsRight (c : Codel) : Type 0 where
   pub some : c.dropping ≡ true → 1 ≤ c.count
   pub count : c.count ≤ greatest_count
   pub last : c.last_count ≤ greatest_count
+  pub dropped : c.dropped ≤ greatest_count
 
 -- The values of the live stations and the queues of a world.
 pub record KeepsRanges (config : Config) (w : World) : Type 0 where

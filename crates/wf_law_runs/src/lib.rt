@@ -23,6 +23,7 @@ ghost use Rattle.wf_law_runs.specs.Offloads.{OffloadLaw};
 ghost use Rattle.wf_law_runs.specs.Modes.{ModeLaw, RepeatLaw};
 ghost use Rattle.wf_law_runs.specs.Fates.{FateLaw};
 ghost use Rattle.wf_law_runs.specs.Finished.{FinishedLaw};
+ghost use Rattle.wf_law_runs.specs.Groups.{GroupApartLaw, GroupCountLaw, GroupOrderLaw, DtimLaw, AnnouncedLaw, GroupMoreLaw};
 ghost use Rattle.wf_law_runs.specs.InFlight.{InFlightLaw};
 ghost use Rattle.wf_law_runs.specs.Kept.{KeptLaw};
 ghost use Rattle.wf_law_runs.specs.Laws.{Laws};
@@ -307,6 +308,43 @@ pub fn codel_law()
 /// the setting by less than one exchange (specs/Delay).
 pub fn delay_law()
     ensures { (config : Config) → (history : List Entry) → IsInRange config → DelayLaw config history }
+{}
+
+/// A call about group frames or a beacon changes nothing but the state of group frames: no share, no rotation
+/// and no session. Every other call leaves that state as it is (specs/Groups).
+pub fn group_apart_law()
+    ensures { GroupApartLaw }
+{}
+
+/// After every entry, each group frame that was accepted was sent, is on the air or is queued. At most as
+/// many are queued as the setting `buffered`, and the DTIM count is below the DTIM period (specs/Groups).
+pub fn group_count_law()
+    ensures { (config : Config) → (history : List Entry) → GroupCountLaw config history }
+{}
+
+/// Group frames are accepted, sent and ended in the order of their ids 0, 1, 2 .., each at most once. Their
+/// sequence numbers count on, modulo 4096, with each beacon and each group frame (specs/Groups; IEEE
+/// 802.11-2012, 9.3.2.10).
+pub fn group_order_law()
+    ensures { (config : Config) → (history : List Entry) → GroupOrderLaw config history }
+{}
+
+/// Each group frame that is sent while a station sleeps was accepted before the latest beacon. That was a
+/// DTIM beacon, and announced group frames (specs/Groups; IEEE 802.11-2012, 10.2.1.4).
+pub fn dtim_law()
+    ensures { (config : Config) → (history : List Entry) → DtimLaw config history }
+{}
+
+/// A beacon announces group frames if, and only if, one may go after it while a station sleeps (specs/Groups;
+/// IEEE 802.11-2012, 8.4.2.7).
+pub fn announced_law()
+    ensures { (config : Config) → (history : List Entry) → AnnouncedLaw config history }
+{}
+
+/// A group frame has the More Data bit if, and only if, a station sleeps and another group frame may go next
+/// (specs/Groups; IEEE 802.11-2012, 8.2.4.1.8).
+pub fn group_more_law()
+    ensures { (config : Config) → (history : List Entry) → GroupMoreLaw config history }
 {}
 
 /// All laws of a history (specs/Laws).

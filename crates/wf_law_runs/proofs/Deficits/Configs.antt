@@ -1,7 +1,7 @@
 -- Proves that no call changes the settings.
 use Rattle.std.proofs.Common.{◌≡◌, refl, ap, ◌∙◌, ℕ, Bool, true, false, if◌then◌else◌, List, [], ◌∷◌, Option, Some, None}
 use Rattle.wf_frame.specs.declared.classes.Class.{Class}
-use Rattle.wf_frame.specs.declared.notes.Ask.TheVariants.{Join, Leave, Rate, Tick, Pull, Arrive, Answer, Done, Sleep, Wake, Poll, Rx, Reap, Ampdu, Stop, Start, Unsent, GiveUp, Flush, Offload, Weight, Plain, Hold, Begin, Free, Cease}
+use Rattle.wf_frame.specs.declared.notes.Ask.TheVariants.{Join, Leave, Rate, Tick, Pull, Arrive, Answer, Done, Sleep, Wake, Poll, Rx, Reap, Ampdu, Stop, Start, Unsent, GiveUp, Flush, Offload, Weight, Plain, Hold, Begin, Free, Cease, Group}
 use Rattle.wf_frame.specs.declared.notes.Limits.{Limits}
 use Rattle.wf_frame.specs.declared.notes.Note.{Note}
 use Rattle.wf_frame.specs.declared.notes.Note.TheVariants.{Enqueue, Asked}
@@ -111,6 +111,7 @@ config_done (Asked (Wake s)) w = ap (λ (z : Books). z.config) (books_woken w s)
 config_done (Asked (Poll s)) w = ap (λ (z : Books). z.config) (books_credited w s)
 config_done (Asked (Rx s c air)) w = ap (λ (z : Books). z.config) (books_received w s c air)
 config_done (Asked Reap) w = ap (λ (z : Books). z.config) (books_reaped w.finished w)
+config_done (Asked (Group ask)) w = refl
 
 config_refused : (note : Note) (r : Refusal) (w : World) → (after_refusal w note r).config ≡ w.config
 unfolding after_refusal

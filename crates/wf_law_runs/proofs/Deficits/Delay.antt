@@ -3,7 +3,7 @@
 use Rattle.std.proofs.Common.{◌≡◌, refl, ap, sym, ◌∙◌, subst, arith, ℕ, zero, suc, ◌+◌, ◌-◌, ◌<◌, ◌≤◌, Bool, true, false, if◌then◌else◌, cond, not, ◌||◌, List, [], ◌∷◌, ◌++◌, Option, Some, None, is_some, is_none, map, filter, find, take, drop, nat_le, ◌==◌, inl, inr}
 use Rattle.wf_frame.specs.declared.settings.Config.{Config}
 use Rattle.wf_frame.specs.declared.classes.Class.{Class}
-use Rattle.wf_frame.specs.declared.notes.Ask.TheVariants.{Join, Leave, Rate, Tick, Pull, Arrive, Answer, Done, Sleep, Wake, Poll, Rx, Reap, Ampdu, Stop, Start, Unsent, GiveUp, Flush, Offload, Weight, Plain, Hold, Begin, Free, Cease}
+use Rattle.wf_frame.specs.declared.notes.Ask.TheVariants.{Join, Leave, Rate, Tick, Pull, Arrive, Answer, Done, Sleep, Wake, Poll, Rx, Reap, Ampdu, Stop, Start, Unsent, GiveUp, Flush, Offload, Weight, Plain, Hold, Begin, Free, Cease, Group}
 use Rattle.wf_frame.specs.declared.notes.Limits.{Limits}
 use Rattle.wf_frame.specs.declared.notes.Note.{Note}
 use Rattle.wf_frame.specs.declared.notes.Note.TheVariants.{Enqueue, Asked}
@@ -266,6 +266,7 @@ passes_done n (Asked (Wake s)) w r k b = passes_books _ n w (books w) _ (books_w
 passes_done n (Asked (Poll s)) w r k b = passes_books _ n w (books w) _ (books_credited w s) refl refl
 passes_done n (Asked (Rx s c air)) w r k b = passes_books _ n w _ _ (books_received w s c air) refl refl
 passes_done n (Asked Reap) w r k b = passes_books _ n w (books w) _ (books_reaped w.finished w) refl refl
+passes_done n (Asked (Group ask)) w r k b = passes_same _ n (books w) _ refl refl
 
 passes_refused : (Q : Type 0) (n : ℕ) (note : Note) (r : Refusal) (w : World) →
     Passes Q n 0 (books w) (books (after_refusal w note r))

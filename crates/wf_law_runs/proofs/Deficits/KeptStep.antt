@@ -7,7 +7,7 @@ use Rattle.std.proofs.lemmas.List.Sums.{sum_by-cons}
 use Rattle.std.proofs.Math.Nat.{le-max_left, le-max_right, min-le_right}
 use Rattle.wf_frame.specs.declared.settings.Config.{Config}
 use Rattle.wf_frame.specs.declared.classes.Class.{Class}
-use Rattle.wf_frame.specs.declared.notes.Ask.TheVariants.{Join, Leave, Rate, Tick, Pull, Arrive, Answer, Done, Sleep, Wake, Poll, Rx, Reap, Ampdu, Stop, Start, Unsent, GiveUp, Flush, Offload, Weight, Plain, Hold, Begin, Free, Cease}
+use Rattle.wf_frame.specs.declared.notes.Ask.TheVariants.{Join, Leave, Rate, Tick, Pull, Arrive, Answer, Done, Sleep, Wake, Poll, Rx, Reap, Ampdu, Stop, Start, Unsent, GiveUp, Flush, Offload, Weight, Plain, Hold, Begin, Free, Cease, Group}
 use Rattle.wf_frame.specs.declared.notes.Limits.{Limits}
 use Rattle.wf_frame.specs.declared.notes.Note.{Note}
 use Rattle.wf_frame.specs.declared.notes.Note.TheVariants.{Enqueue, Asked}
@@ -519,6 +519,7 @@ kept_done (Asked (Wake s)) w e i = is _ _ (books_woken w s) i
 kept_done (Asked (Poll s)) w e i = is _ _ (books_credited w s) i
 kept_done (Asked (Rx s c air)) w e i = kept_received w s c air e.1.0 e.1.1.1.0 i
 kept_done (Asked Reap) w e i = is _ _ (books_reaped w.finished w) i
+kept_done (Asked (Group ask)) w e i = i
 
 kept_refused : (note : Note) (r : Refusal) (w : World) → IsKept (books w) →
     IsKept (books (after_refusal w note r))

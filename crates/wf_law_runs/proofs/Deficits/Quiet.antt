@@ -4,7 +4,7 @@ use Rattle.std.proofs.Common.{◌≡◌, refl, ap, sym, ◌∙◌, subst, arith,
 use Rattle.std.proofs.lemmas.Bool.{cases_eq, ne_eqb, and_parts, not-false, leb-true}
 use Rattle.wf_frame.specs.declared.settings.Config.{Config}
 use Rattle.wf_frame.specs.declared.classes.Class.{Class}
-use Rattle.wf_frame.specs.declared.notes.Ask.TheVariants.{Join, Leave, Rate, Tick, Pull, Arrive, Answer, Done, Sleep, Wake, Poll, Rx, Reap, Ampdu, Stop, Start, Unsent, GiveUp, Flush, Offload, Weight, Plain, Hold, Begin, Free, Cease}
+use Rattle.wf_frame.specs.declared.notes.Ask.TheVariants.{Join, Leave, Rate, Tick, Pull, Arrive, Answer, Done, Sleep, Wake, Poll, Rx, Reap, Ampdu, Stop, Start, Unsent, GiveUp, Flush, Offload, Weight, Plain, Hold, Begin, Free, Cease, Group}
 use Rattle.wf_frame.specs.declared.notes.Note.{Note}
 use Rattle.wf_frame.specs.declared.notes.Note.TheVariants.{Enqueue, Asked}
 use Rattle.wf_frame.specs.declared.notes.Refusal.{Refusal}
@@ -217,6 +217,7 @@ heard_done (Asked (Rx i d air)) w c n s r k h =
     heard_books c _ s _ _ (books_received w i d air)
     (heard_received c d n s i air (books w) (leb-true _ _ (and_parts _ _ (not-false _ r.1.0)).0) h)
 heard_done (Asked Reap) w c n s r k h = heard_books c n s _ _ (books_reaped w.finished w) h
+heard_done (Asked (Group ask)) w c n s r k h = h
 
 heard_refused : (note : Note) (r : Refusal) (w : World) (c : Class) (n s : ℕ) →
     IsHeard c n ((books w).accounts s) → IsHeard c n ((books (after_refusal w note r)).accounts s)

@@ -4,7 +4,7 @@ use Rattle.std.proofs.Common.{◌≡◌, refl, ap, sym, ◌∙◌, subst, arith,
 use Rattle.std.proofs.lemmas.Bool.{cases_eq, cases_Bool, and_parts, or_parts, eqb-true}
 use Rattle.wf_frame.specs.declared.settings.Config.{Config}
 use Rattle.wf_frame.specs.declared.classes.Class.{Class}
-use Rattle.wf_frame.specs.declared.notes.Ask.TheVariants.{Join, Leave, Rate, Tick, Pull, Arrive, Answer, Done, Sleep, Wake, Poll, Rx, Reap, Ampdu, Stop, Start, Unsent, GiveUp, Flush, Offload, Weight, Plain, Hold, Begin, Free, Cease}
+use Rattle.wf_frame.specs.declared.notes.Ask.TheVariants.{Join, Leave, Rate, Tick, Pull, Arrive, Answer, Done, Sleep, Wake, Poll, Rx, Reap, Ampdu, Stop, Start, Unsent, GiveUp, Flush, Offload, Weight, Plain, Hold, Begin, Free, Cease, Group}
 use Rattle.wf_frame.specs.declared.notes.Limits.{Limits}
 use Rattle.wf_frame.specs.declared.notes.Note.{Note}
 use Rattle.wf_frame.specs.declared.notes.Note.TheVariants.{Enqueue, Asked}
@@ -142,6 +142,7 @@ keeps_done (Asked (Rx i c air)) w s k h = keeps_same s w _
     (ap (λ (b : Books). b.rotations) (books_received w i c air))
 keeps_done (Asked Reap) w s k h = keeps_same s w _
     (ap (λ (b : Books). b.rotations) (books_reaped w.finished w))
+keeps_done (Asked (Group ask)) w s k h = keeps_same s w _ refl
 
 ready_to_list : (w : World) (c : Class) (s : ℕ) → is_ready w c s ≡ true → is_to_list w c s ≡ true
 ready_to_list w c s h = ap (λ (b : Bool). b || is_debtor w c s) h

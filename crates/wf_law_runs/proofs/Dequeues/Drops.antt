@@ -6,7 +6,7 @@ use Rattle.wf_frame.specs.declared.classes.Class.{Class}
 use Rattle.wf_frame.specs.declared.classes.Cause.TheVariants.{Codel as By_codel, Left, Overlimit, Retries, Flushed, Ended}
 use Rattle.wf_frame.specs.declared.classes.Fate.{Fate}
 use Rattle.wf_frame.specs.declared.classes.Fate.TheVariants.{Held, Acked, Dropped}
-use Rattle.wf_frame.specs.declared.notes.Ask.TheVariants.{Join, Leave, Rate, Tick, Pull, Arrive, Answer, Done, Sleep, Wake, Poll, Rx, Reap, Ampdu, Stop, Start, Unsent, GiveUp, Flush, Offload, Weight, Plain, Hold, Begin, Free, Cease}
+use Rattle.wf_frame.specs.declared.notes.Ask.TheVariants.{Join, Leave, Rate, Tick, Pull, Arrive, Answer, Done, Sleep, Wake, Poll, Rx, Reap, Ampdu, Stop, Start, Unsent, GiveUp, Flush, Offload, Weight, Plain, Hold, Begin, Free, Cease, Group}
 use Rattle.wf_frame.specs.declared.notes.Limits.{Limits}
 use Rattle.wf_frame.specs.declared.notes.Note.{Note}
 use Rattle.wf_frame.specs.declared.notes.Note.TheVariants.{Enqueue, Asked}
@@ -14,7 +14,7 @@ use Rattle.wf_frame.specs.declared.notes.Refusal.{Refusal}
 use Rattle.wf_frame.specs.declared.notes.Refusal.TheVariants.{Idle}
 use Rattle.wf_frame.specs.Classes.{all_classes}
 use Rattle.wf_def_lists.specs.Table.{at, has, upto}
-use Rattle.wf_def_codel.specs.Codel.{Item, Codel, Dequeued, new_codel, drops as codel_drops, dequeue}
+use Rattle.wf_def_codel.specs.Codel.{Item, Codel, Dequeued, renewed, drops as codel_drops, dequeue}
 use Rattle.wf_def_rotation.specs.Rotation.{in_order, no_keys}
 use Rattle.wf_def_agreement.specs.Session.{Session, State, End, request_due, with_state, after_end, after_flush}
 use Rattle.wf_def_world.specs.World.{World, Mpdu, Exchange, Content, Frames, Request, Frame, no_frame, frame, session, tid_of, queue, exchange, codel_params, on_session, on_receiver, on_station, on_share, with_station, with_queues, on_queue, with_fate, with_frame_finished, with_frames_finished, with_exchange, without_exchange}
@@ -393,7 +393,7 @@ none_purged : (qs : List ℕ) (w : World) → Drops None_of w (after_queues_left
 unfolding after_queues_left after_queue_left
 none_purged [] w = no_drops None_of w w (untouched w)
 none_purged (q ∷ qs) w =
-    let u : World = on_queue w q (λ y. record y { items = []; codel = new_codel }) in
+    let u : World = on_queue w q (λ y. record y { items = []; codel = renewed y.codel }) in
     let v : World = with_frames_finished u (Dropped Left) (map (λ x. x.id) (queue w q).items) in
     then_drops None_of w u (after_queues_left v qs) (no_drops None_of w u (untouched_on_queue w q _))
     (then_drops None_of u v (after_queues_left v qs)
@@ -624,6 +624,7 @@ drops_done (Asked (Wake s)) w r = no_drops _ w _ (untouched_on_station w s _)
 drops_done (Asked (Poll s)) w r = no_drops _ w _ (untouched_on_station w s _)
 drops_done (Asked (Rx s c air)) w r = no_drops _ w _ (untouched_on_station w s _)
 drops_done (Asked Reap) w r = none_wider _ w _ (none_reaped w.finished w)
+drops_done (Asked (Group ask)) w r = record { drops = λ k e. inl e }
 
 untouched_refused : (note : Note) (r : Refusal) (w : World) → Untouched w (after_refusal w note r)
 unfolding after_refusal

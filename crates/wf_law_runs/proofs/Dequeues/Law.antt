@@ -1,7 +1,7 @@
 -- Proves the law of CoDel in whole runs, by induction on the run.
 use Rattle.std.proofs.Common.{subst, ap, sym, ◌∙◌, suc, ◌++◌, ◌<◌, inl, inr, ◌≡◌, refl, ℕ, ◌==◌, ◌&&◌, is_none, List, [], ◌∷◌, take}
 use Rattle.wf_frame.specs.declared.settings.Config.{Config}
-use Rattle.wf_frame.specs.declared.notes.Ask.TheVariants.{Join, Leave, Rate, Tick, Pull, Arrive, Answer, Done, Sleep, Wake, Poll, Rx, Reap, Ampdu, Stop, Start, Unsent, GiveUp, Flush, Offload, Weight, Plain, Hold, Begin, Free, Cease}
+use Rattle.wf_frame.specs.declared.notes.Ask.TheVariants.{Join, Leave, Rate, Tick, Pull, Arrive, Answer, Done, Sleep, Wake, Poll, Rx, Reap, Ampdu, Stop, Start, Unsent, GiveUp, Flush, Offload, Weight, Plain, Hold, Begin, Free, Cease, Group}
 use Rattle.wf_frame.specs.declared.notes.Note.{Note}
 use Rattle.wf_frame.specs.declared.notes.Note.TheVariants.{Enqueue, Asked}
 use Rattle.wf_def_codel.specs.Codel.{Codel}
@@ -13,7 +13,7 @@ use Rattle.wf_def_world.specs.Run.{Entry, world_after}
 use Rattle.wf_law_rules.specs.CodelLaws.{looks_in, first_looks, HasStood, drops_by, codel_after_all}
 use Rattle.wf_law_rules.proofs.Lemmas.Numbers.{on_if}
 use Rattle.wf_law_rules.proofs.Lemmas.CodelLaws.{standing, rate}
-use Rattle.wf_law_runs.specs.Dequeues.{Visits, no_visits, calmed_visits, lists_queue, becomes_listed, visits_done, visits_after, visits_in, KeepsCodel, HasDequeue, CodelLaw}
+use Rattle.wf_law_runs.specs.Dequeues.{Visits, no_visits, renewed_visits, calmed_visits, lists_queue, becomes_listed, visits_done, visits_after, visits_in, KeepsCodel, HasDequeue, CodelLaw}
 use Rattle.wf_law_runs.proofs.Dequeues.States.{state_of, codel_append, codel_step}
 use Rattle.wf_law_runs.proofs.Dequeues.Drops.{DroppedBy, drops_step}
 
@@ -36,7 +36,7 @@ start_done (Asked (Begin s t window)) w q x h = h
 start_done (Asked (Free s t)) w q x h = h
 start_done (Asked (Cease s t)) w q x h = h
 start_done (Asked (Leave s)) w q x h = on_if (λ (y : Visits). y.start.first_above ≡ 0) (lists_queue w s q)
-    no_visits x (λ _. refl) (λ _. h)
+    (renewed_visits x) x (λ _. refl) (λ _. h)
 start_done (Asked (Rate s to)) w q x h = h
 start_done (Asked (Tick by)) w q x h = h
 start_done (Asked (Pull c l)) w q x h = h
@@ -54,6 +54,7 @@ start_done (Asked (Wake s)) w q x h = h
 start_done (Asked (Poll s)) w q x h = h
 start_done (Asked (Rx s c air)) w q x h = h
 start_done (Asked Reap) w q x h = h
+start_done (Asked (Group ask)) w q x h = h
 
 visited_step : (w : World) (note : Note) (q : ℕ) (x : Visits) → IsVisited w q x →
     IsVisited (step w note).world q (visits_after w q note x)

@@ -1,5 +1,5 @@
 -- Proves how each call changes CoDel's state of a queue: it becomes the state after the dequeues of the call,
--- a new one, or a calmed one. By cases of the call.
+-- a renewed one, or a calmed one. By cases of the call.
 use Rattle.std.proofs.Common.{◌≡◌, refl, ap, sym, ◌∙◌, subst, ℕ, zero, suc, ◌-◌, ◌==◌, Bool, true, false, not, ◌&&◌, ◌||◌, if◌then◌else◌, List, [], ◌∷◌, ◌++◌, length, map, Option, Some, None, is_none, option_map, unwrap_or, inl, inr}
 use Rattle.std.specs.List.{list_any}
 use Rattle.std.proofs.lemmas.Bool.{cases_eq}
@@ -8,7 +8,7 @@ use Rattle.wf_frame.specs.declared.classes.Class.{Class}
 use Rattle.wf_frame.specs.declared.classes.Cause.TheVariants.{Codel as By_codel, Left, Overlimit, Flushed}
 use Rattle.wf_frame.specs.declared.classes.Fate.{Fate}
 use Rattle.wf_frame.specs.declared.classes.Fate.TheVariants.{Dropped}
-use Rattle.wf_frame.specs.declared.notes.Ask.TheVariants.{Join, Leave, Rate, Tick, Pull, Arrive, Answer, Done, Sleep, Wake, Poll, Rx, Reap, Ampdu, Stop, Start, Unsent, GiveUp, Flush, Offload, Weight, Plain, Hold, Begin, Free, Cease}
+use Rattle.wf_frame.specs.declared.notes.Ask.TheVariants.{Join, Leave, Rate, Tick, Pull, Arrive, Answer, Done, Sleep, Wake, Poll, Rx, Reap, Ampdu, Stop, Start, Unsent, GiveUp, Flush, Offload, Weight, Plain, Hold, Begin, Free, Cease, Group}
 use Rattle.wf_frame.specs.declared.notes.Limits.{Limits}
 use Rattle.wf_frame.specs.declared.notes.Note.{Note}
 use Rattle.wf_frame.specs.declared.notes.Note.TheVariants.{Enqueue, Asked}
@@ -16,7 +16,7 @@ use Rattle.wf_frame.specs.declared.notes.Refusal.{Refusal}
 use Rattle.wf_frame.specs.declared.notes.Refusal.TheVariants.{Idle}
 use Rattle.wf_frame.specs.Classes.{all_classes}
 use Rattle.wf_def_lists.specs.Table.{at, put, change, has, upto}
-use Rattle.wf_def_codel.specs.Codel.{Item, Codel, Params, Dequeued, new_codel, dequeue}
+use Rattle.wf_def_codel.specs.Codel.{Item, Codel, Params, Dequeued, renewed, dequeue}
 use Rattle.wf_def_codel.specs.Parameters.{params_at}
 use Rattle.wf_def_rotation.specs.Rotation.{Rotation, Picked, has_key, in_order, no_keys, with_new_key}
 use Rattle.wf_def_agreement.specs.Session.{request_due}
@@ -29,7 +29,7 @@ use Rattle.wf_def_world.specs.Step.{in_rising_order, waiting_ids, after_tid_left
 use Rattle.wf_law_rules.specs.CodelLaws.{Dequeue, codel_after_all}
 use Rattle.wf_law_rules.proofs.Lemmas.Numbers.{on_if, eq_yes, eq_no, has_with}
 use Rattle.wf_law_rules.proofs.Lemmas.Tables.{at_put_same, at_put_other}
-use Rattle.wf_law_runs.specs.Dequeues.{dequeue_for, if_picked, dequeue_of_take, dequeues_of_fresh, dequeues_of_aggregate, dequeues_of_exchange, dequeues_of_winner, dequeues_of_pull, Visits, no_visits, calmed_visits, lists_queue, becomes_listed, visits_done, visits_after}
+use Rattle.wf_law_runs.specs.Dequeues.{dequeue_for, if_picked, dequeue_of_take, dequeues_of_fresh, dequeues_of_aggregate, dequeues_of_exchange, dequeues_of_winner, dequeues_of_pull, Visits, renewed_visits, calmed_visits, lists_queue, becomes_listed, visits_done, visits_after}
 use Rattle.wf_law_runs.proofs.Common.Refused.{after_idle}
 use Rattle.wf_law_runs.proofs.Common.Picked.{picked_world}
 use Rattle.wf_law_runs.proofs.Deficits.Books.{upd, upd_same, upd_other, each_upd}
@@ -254,23 +254,23 @@ has_in_order r q = has_rising_as (in_order r) q ∙ (has_append r.old r.new q
     swapped false false = refl
 
 codel_purged : (w : World) (p q : ℕ) → (queue (after_queue_left w p) q).codel
-    ≡ (if p == q then new_codel else (queue w q).codel)
+    ≡ (if p == q then renewed (queue w q).codel else (queue w q).codel)
 unfolding after_queue_left
 codel_purged w p q =
-    codel_finished (on_queue w p (λ y. record y { items = []; codel = new_codel })) (Dropped Left)
+    codel_finished (on_queue w p (λ y. record y { items = []; codel = renewed y.codel })) (Dropped Left)
     (map (λ x. x.id) (queue w p).items) q
-    ∙ codel_changed w p (λ y. record y { items = []; codel = new_codel }) q
+    ∙ codel_changed w p (λ y. record y { items = []; codel = renewed y.codel }) q
 
--- The state x is new if one of two tests holds, and else the old state c.
-new_if_either : (a b : Bool) (x y c : Codel) → y ≡ (if a then new_codel else c) →
-    x ≡ (if b then new_codel else y) → x ≡ (if a || b then new_codel else c)
-new_if_either true true x y c h k = k
+-- The state x is renewed if one of two tests holds, and else the old state c.
+new_if_either : (a b : Bool) (x y c : Codel) → y ≡ (if a then renewed c else c) →
+    x ≡ (if b then renewed y else y) → x ≡ (if a || b then renewed c else c)
+new_if_either true true x y c h k = k ∙ ap renewed h
 new_if_either true false x y c h k = k ∙ h
-new_if_either false true x y c h k = k
+new_if_either false true x y c h k = k ∙ ap renewed h
 new_if_either false false x y c h k = k ∙ h
 
 codel_all_purged : (qs : List ℕ) (w : World) (q : ℕ) → (queue (after_queues_left w qs) q).codel
-    ≡ (if has qs q then new_codel else (queue w q).codel)
+    ≡ (if has qs q then renewed (queue w q).codel else (queue w q).codel)
 unfolding after_queues_left
 codel_all_purged [] w q = refl
 codel_all_purged (p ∷ ps) w q =
@@ -326,13 +326,14 @@ lists_left w s t i q h =
     ∙ (tid_unlisted (at None u.stations s) t i q (same t ∙ h) ∙ same i)
 
 codel_tid_left : (w : World) (s t q : ℕ) → (queue (after_tid_left w s t) q).codel
-    ≡ (if has_key (tid_of w s t).queues q then new_codel else (queue w q).codel)
+    ≡ (if has_key (tid_of w s t).queues q then renewed (queue w q).codel else (queue w q).codel)
 unfolding after_tid_left with_queues on_tid on_station with_station
 codel_tid_left w s t q =
     let u : World = with_frames_finished w (Dropped Left) (waiting_ids (session w s t).slots) in
     codel_all_purged (in_rising_order (in_order (tid_of w s t).queues)) u q
-    ∙ (ap (λ (b : Bool). if b then new_codel else (queue u q).codel) (has_in_order (tid_of w s t).queues q)
-    ∙ ap (λ (c : Codel). if has_key (tid_of w s t).queues q then new_codel else c)
+    ∙ (ap (λ (b : Bool). if b then renewed (queue u q).codel else (queue u q).codel)
+    (has_in_order (tid_of w s t).queues q)
+    ∙ ap (λ (c : Codel). if has_key (tid_of w s t).queues q then renewed c else c)
     (codel_finished w (Dropped Left) (waiting_ids (session w s t).slots) q))
 
 any_as : (f g : ℕ → Bool) (ts : List ℕ) → ((t : ℕ) → f t ≡ g t) → list_any f ts ≡ list_any g ts
@@ -341,7 +342,8 @@ any_as f g (t ∷ ts) h = ap (λ (b : Bool). b || list_any f ts) (h t)
     ∙ ap (λ (b : Bool). g t || b) (any_as f g ts h)
 
 codel_tids_left : (ts : List ℕ) (w : World) (s q : ℕ) → (queue (after_tids_left w s ts) q).codel
-    ≡ (if list_any (λ t. has_key (tid_of w s t).queues q) ts then new_codel else (queue w q).codel)
+    ≡ (if list_any (λ t. has_key (tid_of w s t).queues q) ts then renewed (queue w q).codel
+    else (queue w q).codel)
 unfolding after_tids_left
 codel_tids_left [] w s q = refl
 codel_tids_left (t ∷ ts) w s q =
@@ -357,21 +359,23 @@ codel_tids_left (t ∷ ts) w s q =
     g : ℕ → Bool
     g = λ i. has_key (tid_of v s i).queues q
 
-    same : (b : Bool) (x y : Codel) → y ≡ new_codel → x ≡ (if b then new_codel else y) → x ≡ new_codel
-    same true x y h k = k
-    same false x y h k = k ∙ h
+    same : (b : Bool) (x y c : Codel) → y ≡ renewed c → x ≡ (if b then renewed y else y) → x ≡ renewed c
+    same true x y c h k = k ∙ ap renewed h
+    same false x y c h k = k ∙ h
 
-    go : (b : Bool) → f t ≡ b → (queue v q).codel ≡ (if b then new_codel else (queue w q).codel) →
-        (queue (after_tids_left v s ts) q).codel ≡ (if list_any g ts then new_codel else (queue v q).codel) →
+    go : (b : Bool) → f t ≡ b → (queue v q).codel ≡ (if b then renewed (queue w q).codel
+        else (queue w q).codel) →
+        (queue (after_tids_left v s ts) q).codel ≡ (if list_any g ts then renewed (queue v q).codel
+        else (queue v q).codel) →
         (queue (after_tids_left v s ts) q).codel
-        ≡ (if b || list_any f ts then new_codel else (queue w q).codel)
-    go true e h k = same (list_any g ts) _ (queue v q).codel h k
-    go false e h k = k ∙ (ap (λ (b : Bool). if b then new_codel else (queue v q).codel)
+        ≡ (if b || list_any f ts then renewed (queue w q).codel else (queue w q).codel)
+    go true e h k = same (list_any g ts) _ (queue v q).codel (queue w q).codel h k
+    go false e h k = k ∙ (ap (λ (b : Bool). if b then renewed (queue v q).codel else (queue v q).codel)
         (any_as g f ts (λ i. lists_left w s t i q e))
-        ∙ ap (λ (c : Codel). if list_any f ts then new_codel else c) h)
+        ∙ ap (λ (c : Codel). if list_any f ts then renewed c else c) h)
 
 codel_gone : (w : World) (s q : ℕ) → (queue (leave_outcome w s).world q).codel
-    ≡ (if lists_queue w s q then new_codel else (queue w q).codel)
+    ≡ (if lists_queue w s q then renewed (queue w q).codel else (queue w q).codel)
 unfolding leave_outcome
 codel_gone w s q =
     let a : World = after_tids_left w s (upto 8) in
@@ -523,8 +527,8 @@ codel_done (Asked (Begin s t window)) w q x h = codel_same q (shelves_begun w s 
 codel_done (Asked (Free s t)) w q x h = codel_same q (shelves_freed w s t) ∙ h
 codel_done (Asked (Cease s t)) w q x h = codel_same q (shelves_ceased w s t) ∙ h
 codel_done (Asked (Leave s)) w q x h = codel_gone w s q
-    ∙ (ap (λ (c : Codel). if lists_queue w s q then new_codel else c) h
-    ∙ sym (state_if (lists_queue w s q) no_visits x))
+    ∙ (ap (λ (c : Codel). if lists_queue w s q then renewed c else c) h
+    ∙ sym (state_if (lists_queue w s q) (renewed_visits x) x))
 codel_done (Asked (Rate s rate)) w q x h = codel_same q (shelves_hidden w s _ (λ x. refl)) ∙ h
 codel_done (Asked (Tick by)) w q x h = h
 codel_done (Asked (Pull c l)) w q x h = codel_pulled w c l q
@@ -549,6 +553,7 @@ codel_done (Asked (Wake s)) w q x h = codel_same q (shelves_hidden w s _ (λ x. 
 codel_done (Asked (Poll s)) w q x h = codel_same q (shelves_hidden w s _ (λ x. refl)) ∙ h
 codel_done (Asked (Rx s c air)) w q x h = codel_same q (shelves_on_share w s c _) ∙ h
 codel_done (Asked Reap) w q x h = codel_same q (shelves_reaped w.finished w) ∙ h
+codel_done (Asked (Group ask)) w q x h = h
 
 codel_refused : (note : Note) (r : Refusal) (w : World) (q : ℕ) →
     (queue (after_refusal w note r) q).codel ≡ (queue w q).codel

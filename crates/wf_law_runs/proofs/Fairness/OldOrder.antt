@@ -3,7 +3,7 @@ use Rattle.std.proofs.Common.{◌≡◌, refl, ap, sym, ◌∙◌, subst, arith,
 use Rattle.std.proofs.lemmas.Bool.{cases_eq, ne_eqb, not_from_true, not_from_false}
 use Rattle.wf_frame.specs.declared.classes.Class.{Class}
 use Rattle.wf_frame.specs.declared.classes.Class.TheVariants.{Bk, Be, Vi, Vo}
-use Rattle.wf_frame.specs.declared.notes.Ask.TheVariants.{Join, Leave, Rate, Tick, Pull, Arrive, Answer, Done, Sleep, Wake, Poll, Rx, Reap, Ampdu, Stop, Start, Unsent, GiveUp, Flush, Offload, Weight, Plain, Hold, Begin, Free, Cease}
+use Rattle.wf_frame.specs.declared.notes.Ask.TheVariants.{Join, Leave, Rate, Tick, Pull, Arrive, Answer, Done, Sleep, Wake, Poll, Rx, Reap, Ampdu, Stop, Start, Unsent, GiveUp, Flush, Offload, Weight, Plain, Hold, Begin, Free, Cease, Group}
 use Rattle.wf_frame.specs.declared.notes.AskedRate.{AskedRate}
 use Rattle.wf_frame.specs.declared.notes.Limits.{Limits}
 use Rattle.wf_frame.specs.declared.notes.Note.{Note}
@@ -551,6 +551,7 @@ turn_done (Asked (Wake s)) w c i j r k h h' = turn_same c i j _ _ (books_woken w
 turn_done (Asked (Poll s)) w c i j r k h h' = turn_same c i j _ _ (books_credited w s)
 turn_done (Asked (Rx s d air)) w c i j r k h h' = turn_received w s d air c i j
 turn_done (Asked Reap) w c i j r k h h' = turn_same c i j _ _ (books_reaped w.finished w)
+turn_done (Asked (Group ask)) w c i j r k h h' = turn_here c i j (books w)
 
 turn_refused : (note : Note) (r : Refusal) (w : World) (c : Class) (i j : ℕ) → IsKept (books w) →
     Both c i j (books w) → Both c i j (books (after_refusal w note r)) →

@@ -10,7 +10,7 @@ use Rattle.wf_frame.specs.declared.notes.Note.{Note}
 use Rattle.wf_frame.specs.declared.notes.Note.TheVariants.{Enqueue}
 use Rattle.wf_frame.specs.Classes.{all_classes}
 use Rattle.wf_def_lists.specs.Table.{at, has, upto}
-use Rattle.wf_def_codel.specs.Codel.{Item, new_codel}
+use Rattle.wf_def_codel.specs.Codel.{Item, renewed as renewed_codel}
 use Rattle.wf_def_rotation.specs.Rotation.{Rotation, has_key, in_order, no_keys}
 use Rattle.wf_def_agreement.specs.Session.{End, Session, Slot, State, no_slot, slot, on_slot, is_settled, is_failed, is_waiting, after_flush, next_number, numbers_where, new_session, start_of}
 use Rattle.wf_def_world.specs.World.{World, Mode, Station, Tid, Queue, Exchange, Mpdu, Content, Frames, Request, Frame, no_frame, no_tid, no_station, new_queue, queue, session, tid_of, is_live, accepted_count, on_queue, on_session, on_tid, on_station, on_share, with_mode, with_station, with_queues, with_rotation, with_fate, with_frame_finished, with_frames_finished, without_exchange}
@@ -437,7 +437,7 @@ pend_one : (l : List ℕ) (w : World) (s : ℕ) (ts : List ℕ) (q : ℕ) → Pl
     Covers (Pend s ts (after_queue_left w q)) (after_queue_left w q)
 unfolding after_queue_left
 pend_one l w s ts q p c =
-    let g : Queue → Queue = λ y. record y { items = []; codel = new_codel } in
+    let g : Queue → Queue = λ y. record y { items = []; codel = renewed_codel y.codel } in
     let u : World = on_queue w q g in
     let ids : List ℕ = ids_in (queue w q).items in
     let v : World = with_frames_finished u (Dropped Left) ids in

@@ -11,7 +11,7 @@ use Rattle.wf_frame.specs.Classes.{all_classes}
 use Rattle.wf_def_world.specs.FlowQueues.{after_limit, with_appended, after_put_in, taken_for_tid}
 use Rattle.wf_def_world.specs.CanSend.{is_ready, can_give}
 use Rattle.wf_def_world.specs.Exchanges.{end_of, is_acked, station_need, most_frames, picked_station, after_arrival, exchange_of, sending_tid, Prepared, mpdus_of, after_tid_turn, with_fresh, aggregate_of, with_number, fresh_mpdus, with_flying, waiting_mpdus, longest_fitting, without_credit, prepared_data, prepared_exchange, with_exchange_opened, after_charge, with_failed_finished, with_settled, with_all_settled, after_done, fits_in, mpdu_of, Aggregate}
-use Rattle.wf_frame.specs.declared.notes.Ask.TheVariants.{Join, Leave, Rate, Tick, Pull, Arrive, Answer, Done, Sleep, Wake, Poll, Rx, Reap, Ampdu, Stop, Start, Unsent, GiveUp, Flush, Offload, Weight, Plain, Hold, Begin, Free, Cease}
+use Rattle.wf_frame.specs.declared.notes.Ask.TheVariants.{Join, Leave, Rate, Tick, Pull, Arrive, Answer, Done, Sleep, Wake, Poll, Rx, Reap, Ampdu, Stop, Start, Unsent, GiveUp, Flush, Offload, Weight, Plain, Hold, Begin, Free, Cease, Group}
 use Rattle.wf_frame.specs.declared.notes.Limits.{Limits}
 use Rattle.wf_frame.specs.declared.notes.Note.{Note}
 use Rattle.wf_frame.specs.declared.notes.Note.TheVariants.{Enqueue, Asked}
@@ -980,6 +980,7 @@ delivered_done (Asked (Rx s c air)) w i a e =
           acks_less (Asked (Rx s c air)) w _ (less_on_share None_of w s c _);
     }
 delivered_done (Asked Reap) w i a e = delivered_reaped _ w.finished w i a
+delivered_done (Asked (Group ask)) w i a e = delivered_plain _ w _ refl refl refl (λ id h. h) i a
 delivered_done (Asked (Unsent x n)) w i a e = delivered_open _ (IsRead w) (exchange w x) w _ (read w i a x) a
     (λ y r. delivered_unsent _ w y n r a)
 delivered_done (Asked (GiveUp x n)) w i a e = delivered_open _ (IsRead w) (exchange w x) w _ (read w i a x) a

@@ -6,7 +6,7 @@ use Rattle.wf_frame.specs.declared.classes.Class.{Class}
 use Rattle.wf_frame.specs.declared.classes.Cause.{Cause}
 use Rattle.wf_frame.specs.declared.classes.Fate.{Fate}
 use Rattle.wf_def_lists.specs.Table.{at, has, put, upto, count_from, with_member}
-use Rattle.wf_def_codel.specs.Codel.{Item, Params, Codel, new_codel, Dequeued, dequeue}
+use Rattle.wf_def_codel.specs.Codel.{Item, Params, Codel, renewed as renewed_codel, Dequeued, dequeue}
 use Rattle.wf_def_codel.specs.CodelLoop.{giving, dropping_first}
 use Rattle.wf_law_rules.proofs.Lemmas.Dequeues.{each_dequeue}
 use Rattle.wf_def_rotation.specs.Rotation.{in_order, no_keys}
@@ -17,7 +17,7 @@ use Rattle.wf_frame.specs.Classes.{all_classes}
 use Rattle.wf_def_world.specs.FlowQueues.{without_head, after_limit, with_appended, after_put_in, with_queues_paid, taken_by_codel, taken_from_picked, taken_for_tid, after_queue_left, after_queues_left, after_queue_flushed, after_queues_flushed, len_given, picked_queue, queue_for, longest_queue, is_at_limit}
 use Rattle.wf_def_world.specs.CanSend.{is_ready, with_listings_of, can_give}
 use Rattle.wf_def_world.specs.Exchanges.{end_of, station_need, most_frames, picked_station, after_arrival, exchange_of, sending_tid, with_heard_start, Prepared, mpdus_of, after_pick, after_tid_turn, with_fresh, aggregate_of, with_number, with_flying, waiting_mpdus, longest_fitting, without_credit, prepared_data, prepared_exchange, with_exchange_opened, after_charge, with_failed_finished, with_settled, with_all_settled, after_done, ids_of, Aggregate, caught_up, caught_up_if_plain}
-use Rattle.wf_frame.specs.declared.notes.Ask.TheVariants.{Join, Leave, Rate, Tick, Pull, Arrive, Answer, Done, Sleep, Wake, Poll, Rx, Reap, Ampdu, Stop, Start, Unsent, GiveUp, Flush, Offload, Weight, Plain, Hold, Begin, Free, Cease}
+use Rattle.wf_frame.specs.declared.notes.Ask.TheVariants.{Join, Leave, Rate, Tick, Pull, Arrive, Answer, Done, Sleep, Wake, Poll, Rx, Reap, Ampdu, Stop, Start, Unsent, GiveUp, Flush, Offload, Weight, Plain, Hold, Begin, Free, Cease, Group}
 use Rattle.wf_frame.specs.declared.notes.Limits.{Limits}
 use Rattle.wf_frame.specs.declared.notes.Note.{Note}
 use Rattle.wf_frame.specs.declared.notes.Note.TheVariants.{Enqueue, Asked}
@@ -1359,7 +1359,7 @@ left_queue : (l : List ℕ) (w : World) (s : ℕ) (ts : List ℕ) (q : ℕ) → 
     Finished (Pend s ts (after_queue_left w q)) w (after_queue_left w q)
 unfolding after_queue_left
 left_queue l w s ts q p h less_v k =
-    let g : Queue → Queue = λ y. record y { items = []; codel = new_codel } in
+    let g : Queue → Queue = λ y. record y { items = []; codel = renewed_codel y.codel } in
     let u : World = on_queue w q g in
     let ids : List ℕ = ids_in (queue w q).items in
     let v : World = with_frames_finished u (Dropped Left) ids in
@@ -1939,6 +1939,8 @@ fates_done (Asked (Hold s t)) l w i e a p h = fates_held w s t h
 fates_done (Asked (Begin s t window)) l w i e a p h = fates_begun w s t window h
 fates_done (Asked (Free s t)) l w i e a p h = fates_freed w s t h
 fates_done (Asked (Cease s t)) l w i e a p h = fates_ceased l w s t (not_no (is_live w s) e.1.1.0) p h
+fates_done (Asked (Group ask)) l w i e a p h =
+    fates_plain w _ refl (record { frames = refl; finished = refl }) (λ s t. refl) h
 
 fates_refused : (note : Note) (r : Refusal) (w : World) → Fresh w → Kept_fates 0 0 w (after_refusal w note r)
 unfolding after_refusal

@@ -2,7 +2,7 @@
 -- call and induction on the run.
 use Rattle.std.proofs.Common.{◌≡◌, ◌≢◌, refl, ap, sym, ◌∙◌, subst, arith, ℕ, zero, suc, ◌+◌, ◌-◌, ◌≤◌, true, false, ◌==◌, List, [], ◌∷◌, Option, Some, None, IfSome, take, drop, ◌&&◌}
 use Rattle.wf_frame.specs.declared.settings.Config.{Config}
-use Rattle.wf_frame.specs.declared.notes.Ask.TheVariants.{Join, Leave, Rate, Tick, Pull, Arrive, Answer, Done, Sleep, Wake, Poll, Rx, Reap, Ampdu, Stop, Start, Unsent, GiveUp, Flush, Offload, Weight, Hold, Begin, Free, Cease}
+use Rattle.wf_frame.specs.declared.notes.Ask.TheVariants.{Join, Leave, Rate, Tick, Pull, Arrive, Answer, Done, Sleep, Wake, Poll, Rx, Reap, Ampdu, Stop, Start, Unsent, GiveUp, Flush, Offload, Weight, Hold, Begin, Free, Cease, Group}
 use Rattle.wf_frame.specs.declared.notes.Ask.TheVariants as call
 use Rattle.wf_frame.specs.declared.notes.Note.{Note}
 use Rattle.wf_frame.specs.declared.notes.Note.TheVariants.{Enqueue, Asked}
@@ -203,6 +203,8 @@ stays_done (Asked (Free s t)) w i r =
     stays_same _ w _ (same_freed w s t (not_no (is_held_back w s t) r.1.1.1.0))
 stays_done (Asked (Cease s t)) w i r = stays_but (Asked (Cease s t)) s t w _ (λ a b. other_way s t a b)
     (last_ceased w s t)
+stays_done (Asked (Group ask)) w i r = stays_last _ w _
+    (record { sessions = λ s t. lasts_refl (session w s t); sizes = λ s t. refl; live = λ s. refl })
 
 last_refused : (note : Note) (r : Refusal) (w : World) → Last w (after_refusal w note r)
 unfolding after_refusal

@@ -7,7 +7,7 @@ use Rattle.std.proofs.lemmas.Nat.{div-add-mod'}
 use Rattle.wf_frame.specs.declared.settings.Config.{Config}
 use Rattle.wf_frame.specs.Settings.{IsInRange}
 use Rattle.wf_frame.specs.declared.classes.Class.{Class}
-use Rattle.wf_frame.specs.declared.notes.Ask.TheVariants.{Join, Leave, Rate, Tick, Pull, Arrive, Answer, Done, Sleep, Wake, Poll, Rx, Reap, Ampdu, Stop, Start, Unsent, GiveUp, Flush, Offload, Weight, Hold, Begin, Free, Cease}
+use Rattle.wf_frame.specs.declared.notes.Ask.TheVariants.{Join, Leave, Rate, Tick, Pull, Arrive, Answer, Done, Sleep, Wake, Poll, Rx, Reap, Ampdu, Stop, Start, Unsent, GiveUp, Flush, Offload, Weight, Hold, Begin, Free, Cease, Group}
 use Rattle.wf_frame.specs.declared.notes.Ask.TheVariants as call
 use Rattle.wf_frame.specs.declared.notes.Limits.{Limits}
 use Rattle.wf_frame.specs.declared.notes.Note.{Note}
@@ -1121,6 +1121,8 @@ repeats_done (Asked (Begin s t window)) w i j r h = repeats_begun w s t window i
 repeats_done (Asked (Free s t)) w i j r h =
     repeats_same w _ i j (same_freed w s t (not_no (is_held_back w s t) r.1.1.1.0)) h
 repeats_done (Asked (Cease s t)) w i j r h = repeats_ceased w s t i r h
+repeats_done (Asked (Group ask)) w i j r h = repeats_calm w _ i j (keep_plain w _ refl)
+    (record { moves = λ s t. moves_refl (session w s t) }) refl h
 
 repeats_refused : (note : Note) (r : Refusal) (w : World) → IsLawful w → Repeats w → Repeats
     (after_refusal w note r)

@@ -1,12 +1,12 @@
 -- Proves that each call keeps the invariant of the shelves, by cases of the call.
 use Rattle.wf_law_runs.proofs.Queues.Shelved.{part_none, restated, each_item, IsWithin, IsOf, Owned, IsShelved, IsPart, part_tail, IsLeft, left_dequeue, if_longer, keep_queue, CanList, relisted, appended_to, noted, paid}
 use Rattle.wf_law_runs.specs.Ranges.{CountsRight}
-use Rattle.wf_law_runs.proofs.Queues.Drops.{counts_new, counts_listed, counts_dequeue}
+use Rattle.wf_law_runs.proofs.Queues.Drops.{counts_renewed, counts_listed, counts_dequeue}
 use Rattle.wf_law_rules.proofs.Lemmas.Sums.{length_put}
 use Rattle.wf_def_rotation.specs.Rotation.{no_keys, Rotation, has_key, in_order, with_new_key}
 use Rattle.wf_law_rules.proofs.Lemmas.Counts.{on-has, on-nil, on-cons_same, on-cons_other, on-append, on-filter, has-on}
 use Rattle.std.proofs.Common.{map, nat_lt, ◌-◌, ◌≡◌, refl, ap, sym, ◌∙◌, subst, arith, ℕ, zero, suc, ◌*◌, ◌%◌, ◌<◌, ◌≤◌, ℤ, pos, ◌+ℤ◌, ◌-ℤ◌, ◌≤ℤ◌, Bool, true, false, not, ◌&&◌, ◌||◌, ◌==◌, if◌then◌else◌, List, [], ◌∷◌, ◌++◌, length, Option, Some, None, IfSome, inl, inr, ◌⊎◌}
-use Rattle.wf_def_codel.specs.Codel.{new_codel, Item, Dequeued, dequeue}
+use Rattle.wf_def_codel.specs.Codel.{renewed, Item, Dequeued, dequeue}
 use Rattle.wf_law_runs.proofs.Windows.Sides.{Same, same_take, on_live, same_after_turn, same_within_limit, same_picked}
 use Rattle.wf_frame.specs.declared.classes.Cause.TheVariants.{Left, Overlimit}
 use Rattle.wf_def_world.specs.World.{on_session, with_frames_finished, Mpdu, Mode, Plain, Agreed, new_tid, session, rotation, World, Queue, no_frame, queue, tid_of, is_live, accepted_count, live_stations, codel_params, on_queue, with_queues, with_frame_finished, with_fate, on_tid, on_station, with_station}
@@ -570,13 +570,14 @@ purged_one : (most : ℕ) (w : World) (q : ℕ) → IsShelved most (shelves w) �
     Purged most (q ∷ []) w (after_queue_left w q)
 unfolding after_queue_left
 purged_one most w q i =
-    let y : Queue = record (queue w q) { items = []; codel = new_codel } in
-    let is : shelves (with_frames_finished (on_queue w q (λ y. record y { items = []; codel = new_codel }))
+    let y : Queue = record (queue w q) { items = []; codel = renewed (queue w q).codel } in
+    let is : shelves (with_frames_finished
+    (on_queue w q (λ y. record y { items = []; codel = renewed y.codel }))
     (Dropped Left) (map (λ x. x.id) (queue w q).items)) ≡ with_queue (shelves w) q y =
     shelves_finish_all _ _ _ ∙ shelves_on_queue w q _ in
     record {
       shelved = subst (IsShelved most) (sym is) (keep_queue most (shelves w) q y (part_none (queue w q).items)
-          (λ s t l. i.deficits s t q l) counts_new i);
+          (λ s t l. i.deficits s t q l) (counts_renewed (queue w q).codel (i.counts q)) i);
       spots = ap (λ (b : Shelves). b.spots) is;
       fewer = λ p. subst (λ (z : Queue). length z.items ≤ length (queue w p).items)
           (sym (ap (λ (b : Shelves). b.queues p) is))

@@ -5,7 +5,7 @@ use Rattle.std.proofs.lemmas.Bool.{not-false, and_parts}
 use Rattle.wf_frame.specs.declared.settings.Config.{Config}
 use Rattle.wf_frame.specs.declared.classes.Class.{Class}
 use Rattle.wf_frame.specs.declared.classes.Fate.{Fate}
-use Rattle.wf_frame.specs.declared.notes.Ask.TheVariants.{Join, Leave, Rate, Tick, Pull, Arrive, Answer, Done, Sleep, Wake, Poll, Rx, Reap, Ampdu, Stop, Start, Unsent, GiveUp, Flush, Offload, Weight, Plain, Hold, Begin, Free, Cease}
+use Rattle.wf_frame.specs.declared.notes.Ask.TheVariants.{Join, Leave, Rate, Tick, Pull, Arrive, Answer, Done, Sleep, Wake, Poll, Rx, Reap, Ampdu, Stop, Start, Unsent, GiveUp, Flush, Offload, Weight, Plain, Hold, Begin, Free, Cease, Group}
 use Rattle.wf_frame.specs.declared.notes.Limits.{Limits}
 use Rattle.wf_frame.specs.declared.notes.Note.{Note}
 use Rattle.wf_frame.specs.declared.notes.Note.TheVariants.{Enqueue, Asked}
@@ -491,6 +491,7 @@ kept_done (Asked Reap) w e h = kept_reaped w.finished w h
 kept_done (Asked (Ampdu s octets)) w e h = kept_stated w s octets e.1.0 h
 kept_done (Asked (Stop s)) w e h = set_station w s _ (λ x _ k. k) h
 kept_done (Asked (Start s)) w e h = set_station w s _ (λ x _ k. k) h
+kept_done (Asked (Group ask)) w e h = h
 
 kept_refused : (note : Note) (r : Refusal) (w : World) → Traits w → Traits (after_refusal w note r)
 unfolding after_refusal

@@ -7,7 +7,7 @@ use Rattle.wf_frame.specs.declared.settings.Config.{Config}
 use Rattle.wf_frame.specs.declared.classes.Class.{Class}
 use Rattle.wf_frame.specs.declared.classes.Fate.TheVariants.{Dropped}
 use Rattle.wf_frame.specs.declared.classes.Cause.TheVariants.{Left, Overlimit}
-use Rattle.wf_frame.specs.declared.notes.Ask.TheVariants.{Join, Leave, Rate, Tick, Pull, Arrive, Answer, Done, Sleep, Wake, Poll, Rx, Reap, Ampdu, Stop, Start, Unsent, GiveUp, Flush, Offload, Weight, Plain, Hold, Begin, Free, Cease}
+use Rattle.wf_frame.specs.declared.notes.Ask.TheVariants.{Join, Leave, Rate, Tick, Pull, Arrive, Answer, Done, Sleep, Wake, Poll, Rx, Reap, Ampdu, Stop, Start, Unsent, GiveUp, Flush, Offload, Weight, Plain, Hold, Begin, Free, Cease, Group}
 use Rattle.wf_frame.specs.declared.notes.Limits.{Limits}
 use Rattle.wf_frame.specs.declared.notes.Note.{Note}
 use Rattle.wf_frame.specs.declared.notes.Note.TheVariants.{Enqueue, Asked}
@@ -753,6 +753,8 @@ stocked_done most (Asked (Free s t)) l w e a k i =
     stocked_same most w (free_outcome w s t).world (shelves_freed w s t) (opened_freed w s t) i
 stocked_done most (Asked (Cease s t)) l w e a k i =
     stocked_same most w (cease_outcome w s t).world (shelves_ceased w s t) (opened_ceased w s t) i
+stocked_done most (Asked (Group ask)) l w e a k i =
+    record { short = i.short; measured = i.measured; lens = i.lens }
 
 stocked_refused : (most : ℕ) (note : Note) (r : Refusal) (w : World) → IsStocked most w →
     IsStocked most (after_refusal w note r)

@@ -5,7 +5,7 @@ use Rattle.std.proofs.Common.{◌≡◌, refl, ap, sym, ◌∙◌, subst, arith,
 use Rattle.std.proofs.lemmas.Int.{ints}
 use Rattle.wf_frame.specs.declared.settings.Config.{Config}
 use Rattle.wf_frame.specs.declared.classes.Class.{Class}
-use Rattle.wf_frame.specs.declared.notes.Ask.TheVariants.{Join, Leave, Rate, Tick, Pull, Arrive, Answer, Done, Sleep, Wake, Poll, Rx, Reap, Ampdu, Stop, Start, Unsent, GiveUp, Flush, Offload, Weight, Plain, Hold, Begin, Free, Cease}
+use Rattle.wf_frame.specs.declared.notes.Ask.TheVariants.{Join, Leave, Rate, Tick, Pull, Arrive, Answer, Done, Sleep, Wake, Poll, Rx, Reap, Ampdu, Stop, Start, Unsent, GiveUp, Flush, Offload, Weight, Plain, Hold, Begin, Free, Cease, Group}
 use Rattle.wf_frame.specs.declared.notes.Limits.{Limits}
 use Rattle.wf_frame.specs.declared.notes.Note.{Note}
 use Rattle.wf_frame.specs.declared.notes.Note.TheVariants.{Enqueue, Asked}
@@ -232,6 +232,7 @@ grants_done (Asked (Rx i d air)) w c s r k live still =
     grants_books c s (books w) _ _ (books_received w i d air)
     (grants_on c s i (books w) (on_part d (receive_share air)) (quanta_receive c d air))
 grants_done (Asked Reap) w c s r k live still = grants_same c s _ _ (books_reaped w.finished w)
+grants_done (Asked (Group ask)) w c s r k live still = grants_same c s _ _ refl
 
 grants_refused : (note : Note) (r : Refusal) (w : World) (c : Class) (s : ℕ) → IsKept (books w) →
     Grants c s (books w) (books (after_refusal w note r))

@@ -4,7 +4,7 @@ use Rattle.std.proofs.Common.{◌≡◌, refl, ap, sym, ◌∙◌, subst, arith,
 use Rattle.std.proofs.lemmas.Bool.{cases_eq, eqb-true, ne_eqb}
 use Rattle.wf_frame.specs.declared.settings.Config.{Config}
 use Rattle.wf_frame.specs.declared.classes.Class.{Class}
-use Rattle.wf_frame.specs.declared.notes.Ask.TheVariants.{Join, Leave, Rate, Tick, Pull, Arrive, Answer, Done, Sleep, Wake, Poll, Rx, Reap, Ampdu, Stop, Start, Unsent, GiveUp, Flush, Offload, Weight, Plain, Hold, Begin, Free, Cease}
+use Rattle.wf_frame.specs.declared.notes.Ask.TheVariants.{Join, Leave, Rate, Tick, Pull, Arrive, Answer, Done, Sleep, Wake, Poll, Rx, Reap, Ampdu, Stop, Start, Unsent, GiveUp, Flush, Offload, Weight, Plain, Hold, Begin, Free, Cease, Group}
 use Rattle.wf_frame.specs.declared.notes.Limits.{Limits}
 use Rattle.wf_frame.specs.declared.notes.Note.{Note}
 use Rattle.wf_frame.specs.declared.notes.Note.TheVariants.{Enqueue, Asked}
@@ -242,6 +242,7 @@ less_done (Asked (Rx k d air)) w c s r kept unsent =
     less_same _ c s (books w) _ (ap (λ (b : Books). b.opened) (books_received w k d air))
 less_done (Asked Reap) w c s r kept unsent =
     less_same _ c s (books w) _ (ap (λ (b : Books). b.opened) (books_reaped w.finished w))
+less_done (Asked (Group ask)) w c s r kept unsent = less_same _ c s (books w) (books w) refl
 
 less_refused : (note : Note) (r : Refusal) (w : World) (c : Class) (s : ℕ) →
     Less (longest_exchange w.config c) c s 0 (books w) (books (after_refusal w note r))

@@ -5,7 +5,7 @@ use Rattle.std.proofs.lemmas.Bool.{cases_eq, ne_eqb, eqb-true, and_parts, not-tr
 use Rattle.wf_frame.specs.declared.settings.Config.{Config}
 use Rattle.wf_frame.specs.declared.classes.Class.{Class}
 use Rattle.wf_frame.specs.declared.classes.Class.TheVariants.{Bk, Be, Vi, Vo}
-use Rattle.wf_frame.specs.declared.notes.Ask.TheVariants.{Join, Leave, Rate, Tick, Pull, Arrive, Answer, Done, Sleep, Wake, Poll, Rx, Reap, Ampdu, Stop, Start, Unsent, GiveUp, Flush, Offload, Weight, Plain, Hold, Begin, Free, Cease}
+use Rattle.wf_frame.specs.declared.notes.Ask.TheVariants.{Join, Leave, Rate, Tick, Pull, Arrive, Answer, Done, Sleep, Wake, Poll, Rx, Reap, Ampdu, Stop, Start, Unsent, GiveUp, Flush, Offload, Weight, Plain, Hold, Begin, Free, Cease, Group}
 use Rattle.wf_frame.specs.declared.notes.Limits.{Limits}
 use Rattle.wf_frame.specs.declared.notes.Note.{Note}
 use Rattle.wf_frame.specs.declared.notes.Note.TheVariants.{Enqueue, Asked}
@@ -617,6 +617,8 @@ move_done (Asked (Rx k d air)) w c s i r kept differs h =
     (turn_received w k d air c i s)
 move_done (Asked Reap) w c s i r kept differs h =
     move_same _ c s i _ _ (stays_listed c s i w _ h) (books_reaped w.finished w)
+move_done (Asked (Group ask)) w c s i r kept differs h =
+    move_same _ c s i _ _ (stays_listed c s i w _ h) refl
 
 move_refused : (note : Note) (r : Refusal) (w : World) (c : Class) (s i : ℕ) → IsKept (books w) →
     (s ≡ i → ⊥) → Stays c s i w (books (after_refusal w note r)) →

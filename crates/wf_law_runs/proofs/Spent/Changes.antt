@@ -3,7 +3,7 @@
 use Rattle.std.proofs.Common.{◌≡◌, refl, sym, ◌∙◌, subst, ℕ, ◌<◌, Bool, false, Option, Some, None, is_some, IfSome, option_map, ◌==◌, find, eq-eqb}
 use Rattle.std.proofs.lemmas.Bool.{and_parts, not-false, leb-true}
 use Rattle.wf_frame.specs.declared.classes.Class.{Class}
-use Rattle.wf_frame.specs.declared.notes.Ask.TheVariants.{Join, Leave, Rate, Tick, Pull, Arrive, Answer, Done, Sleep, Wake, Poll, Rx, Reap, Ampdu, Stop, Start, Unsent, GiveUp, Flush, Offload, Weight, Plain, Hold, Begin, Free, Cease}
+use Rattle.wf_frame.specs.declared.notes.Ask.TheVariants.{Join, Leave, Rate, Tick, Pull, Arrive, Answer, Done, Sleep, Wake, Poll, Rx, Reap, Ampdu, Stop, Start, Unsent, GiveUp, Flush, Offload, Weight, Plain, Hold, Begin, Free, Cease, Group}
 use Rattle.wf_frame.specs.declared.notes.AskedRate.{AskedRate}
 use Rattle.wf_frame.specs.declared.notes.Limits.{Limits}
 use Rattle.wf_frame.specs.declared.notes.Note.{Note}
@@ -120,6 +120,7 @@ module _ (err : ℕ) (w : World) (P : Books → Type 0) (kept : IsKept (books w)
   changes_done (Asked (Rx i d air)) fine r near k = changed _ _ (books_received w i d air)
       (p.heard i d air (leb-true _ _ (and_parts _ _ (not-false _ r.1.0)).0))
   changes_done (Asked Reap) fine r near k = changed _ _ (books_reaped w.finished w) p.same
+  changes_done (Asked (Group ask)) fine r near k = p.same
 
   changes_refused : (note : Note) (r : Refusal) → w.config.pending ≡ 1 → P (books (after_refusal w note r))
   unfolding after_refusal

@@ -4,7 +4,7 @@ use Rattle.std.proofs.Common.{◌≡◌, refl, ap, ◌∙◌, arith, ℕ, ◌+�
 use Rattle.std.proofs.lemmas.Int.{ints}
 use Rattle.wf_frame.specs.declared.settings.Config.{Config}
 use Rattle.wf_frame.specs.declared.classes.Class.{Class}
-use Rattle.wf_frame.specs.declared.notes.Ask.TheVariants.{Join, Leave, Rate, Tick, Pull, Arrive, Answer, Done, Sleep, Wake, Poll, Rx, Reap, Ampdu, Stop, Start, Unsent, GiveUp, Flush, Offload, Weight, Plain, Hold, Begin, Free, Cease}
+use Rattle.wf_frame.specs.declared.notes.Ask.TheVariants.{Join, Leave, Rate, Tick, Pull, Arrive, Answer, Done, Sleep, Wake, Poll, Rx, Reap, Ampdu, Stop, Start, Unsent, GiveUp, Flush, Offload, Weight, Plain, Hold, Begin, Free, Cease, Group}
 use Rattle.wf_frame.specs.declared.notes.Limits.{Limits}
 use Rattle.wf_frame.specs.declared.notes.Note.{Note}
 use Rattle.wf_frame.specs.declared.notes.Note.TheVariants.{Enqueue, Asked}
@@ -168,6 +168,7 @@ paid_done (Asked (Rx i d air)) w s c fine kept none =
     paid_same s c (books w) _ (ap (λ (b : Books). b.opened) (books_received w i d air))
 paid_done (Asked Reap) w s c fine kept none =
     paid_same s c (books w) _ (ap (λ (b : Books). b.opened) (books_reaped w.finished w))
+paid_done (Asked (Group ask)) w s c fine kept none = paid_same s c (books w) (books w) refl
 
 paid_refused : (note : Note) (r : Refusal) (w : World) (s : ℕ) (c : Class) →
     IsPaid s 0 0 c (books w) (books (after_refusal w note r))

@@ -4,7 +4,7 @@ use Rattle.std.proofs.Common.{◌≡◌, refl, ap, sym, ◌∙◌, subst, arith,
 use Rattle.std.proofs.lemmas.Bool.{cases_eq, ne_eqb}
 use Rattle.wf_frame.specs.declared.settings.Config.{Config}
 use Rattle.wf_frame.specs.declared.classes.Class.{Class}
-use Rattle.wf_frame.specs.declared.notes.Ask.TheVariants.{Join, Leave, Rate, Tick, Pull, Arrive, Answer, Done, Sleep, Wake, Poll, Rx, Reap, Ampdu, Stop, Start, Unsent, GiveUp, Flush, Offload, Weight, Plain, Hold, Begin, Free, Cease}
+use Rattle.wf_frame.specs.declared.notes.Ask.TheVariants.{Join, Leave, Rate, Tick, Pull, Arrive, Answer, Done, Sleep, Wake, Poll, Rx, Reap, Ampdu, Stop, Start, Unsent, GiveUp, Flush, Offload, Weight, Plain, Hold, Begin, Free, Cease, Group}
 use Rattle.wf_frame.specs.declared.notes.Note.{Note}
 use Rattle.wf_frame.specs.declared.notes.Note.TheVariants.{Enqueue, Asked}
 use Rattle.wf_frame.specs.declared.notes.Refusal.{Refusal}
@@ -262,6 +262,7 @@ sum_done (Asked (Wake i)) w c p q s k h = still c p q _ (sum_books c p q s _ _ (
 sum_done (Asked (Poll i)) w c p q s k h = still c p q _ (sum_books c p q s _ _ (books_credited w i) h)
 sum_done (Asked (Rx i d air)) w c p q s k h = sum_received w i d air c p q s h
 sum_done (Asked Reap) w c p q s k h = still c p q _ (sum_books c p q s _ _ (books_reaped w.finished w) h)
+sum_done (Asked (Group ask)) w c p q s k h = still c p q _ h
 
 sum_refused : (note : Note) (r : Refusal) (w : World) (c : Class) (p q s : ℕ) →
     HasSum c p q ((books w).accounts s) → HasSum c p q ((books (after_refusal w note r)).accounts s)

@@ -15,7 +15,7 @@ use Rattle.wf_frame.specs.Classes.{lower_tid, upper_tid, class_number, all_class
 use Rattle.wf_def_world.specs.FlowQueues.{taken_for_tid}
 use Rattle.wf_def_world.specs.CanSend.{is_request, request_open, can_send, can_send_in, is_ready, can_give}
 use Rattle.wf_def_world.specs.Exchanges.{number_at, caught_up, caught_up_if_plain, is_acked, end_of, transmissions, no_mpdu, station_need, most_frames, picked_station, after_arrival, exchange_of, sending_tid, with_heard_start, Aggregate, Prepared, mpdus_of, with_station_paid, with_stations_paid, after_pick, after_tid_turn, with_fresh, aggregate_of, with_number, fresh_mpdus, with_flying, waiting_mpdus, longest_fitting, prepared_data, prepared_exchange, with_exchange_opened, after_charge, with_failed_finished, with_settled, with_all_settled, after_done}
-use Rattle.wf_frame.specs.declared.notes.Ask.TheVariants.{Join, Leave, Rate, Tick, Pull, Arrive, Answer, Done, Sleep, Wake, Poll, Rx, Reap, Ampdu, Stop, Start, Unsent, GiveUp, Flush, Offload, Weight, Hold, Begin, Free, Cease}
+use Rattle.wf_frame.specs.declared.notes.Ask.TheVariants.{Join, Leave, Rate, Tick, Pull, Arrive, Answer, Done, Sleep, Wake, Poll, Rx, Reap, Ampdu, Stop, Start, Unsent, GiveUp, Flush, Offload, Weight, Hold, Begin, Free, Cease, Group}
 use Rattle.wf_frame.specs.declared.notes.Ask.TheVariants as call
 use Rattle.wf_frame.specs.declared.notes.Limits.{Limits}
 use Rattle.wf_frame.specs.declared.notes.Note.{Note}
@@ -1971,6 +1971,7 @@ lawful_done (Asked (Begin s t window)) w e i = lawful_begun w s t window e i
 lawful_done (Asked (Free s t)) w e i =
     lawful_same w _ (same_freed w s t (not_no (is_held_back w s t) e.1.1.1.0)) i
 lawful_done (Asked (Cease s t)) w e i = lawful_ceased w s t e i
+lawful_done (Asked (Group ask)) w e i = lawful_plain w _ refl refl refl i
 
 pub lawful_refused : (note : Note) (r : Refusal) (w : World) → IsLawful w → IsLawful (after_refusal w note r)
 unfolding after_refusal
