@@ -7,10 +7,11 @@ use Rattle.std.proofs.lemmas.List.{get_or_past, length-map}
 use Rattle.std.proofs.lemmas.Grind.{get_or-set_at}
 use Rattle.std.proofs.lemmas.Nat.{one_shl}
 use Rattle.std.specs.Int.{bit_at}
+use mir.Val.{bool_byte}
 use Rattle.wf_octets.specs.Fields.{is_set}
 use Rattle.wf_octets.specs.declared.tim.Tim.{Tim}
 use Rattle.wf_octets.specs.Tim.{IsTim, whole_octet, aids_of, ends_of, octets_between}
-use Rattle.wf_def_tim.specs.Tim.{map_octet, last_of, tim_element}
+use Rattle.wf_def_tim.specs.Tim.{map_octet, last_of, tim_element, with_group_bit}
 use Rattle.wf_def_lists.specs.Table.{count_from}
 use Rattle.wf_octets.proofs.Maps.{below, below_more, octet_bit, octet_small, octet_with, octet_without, octet_elsewhere}
 
@@ -140,6 +141,12 @@ pub span_of : (present : List Bool) (m a : ℕ) (others : List ℕ) → below pr
 span_of present zero a others is = absurd (cc)
 span_of present (suc m) a others is = span_more present m a others is (λ b bs e. span_of present m b bs e)
 
+-- a bit that is not 1 is 0
+zero_bit : (b : ℕ) → b < 2 → (b == 1) ≡ false → b ≡ 0
+zero_bit zero p q = refl
+zero_bit (suc zero) p q = absurd (both_ways true q refl)
+zero_bit (suc (suc b)) p q = absurd (omega arith)
+
 -- an octet before the first or after the last is 0
 outside_zero : (present : List Bool) (k : ℕ) →
     ((j : ℕ) → j < 8 → get_or present (8 * k + j) false ≡ true → ⊥) → map_octet (aids_of present) k ≡ 0
@@ -156,11 +163,6 @@ outside_zero present k none = same_from_bits_below 8 (map_octet (aids_of present
         (bit_at-lt (map_octet (aids_of present) k) i)
         (entry_bit present k i few ∙ false_from_ne_true (get_or present (8 * k + i) false) (none i few))
         ∙ sym (bit_at-zero i)
-      where
-        zero_bit : (b : ℕ) → b < 2 → (b == 1) ≡ false → b ≡ 0
-        zero_bit zero p q = refl
-        zero_bit (suc zero) p q = absurd (both_ways true q refl)
-        zero_bit (suc (suc b)) p q = absurd (omega arith)
 
 length-count_from : (from n : ℕ) → length (count_from from n) ≡ n
 length-count_from from zero = refl
@@ -335,6 +337,50 @@ element_is (a ∷ others) bitmap count period first last f l long each order sma
 
     one_more : n2 + 1 - n1 ≡ n2 - n1 + 1
     one_more = omega (arith, f, l)
+
+-- ---- the bit for group frames
+
+-- the octets with this bit, if the bitmap control is its number plus the bit
+pub bit_is : (group : Bool) (size count period first : ℕ) (xs : List ℕ) →
+    (5 ∷ size ∷ count ∷ period ∷ (first + bool_byte group) ∷ []) ++ xs
+    ≡ with_group_bit group ((5 ∷ size ∷ count ∷ period ∷ first ∷ []) ++ xs)
+bit_is true size count period first xs = refl
+bit_is false size count period first xs = ap (λ c. 5 ∷ size ∷ count ∷ period ∷ c ∷ xs) (omega arith)
+
+-- an element without this bit has the layout with it
+pub bit_is_tim : (group : Bool) (tim : Tim) (xs : List ℕ) (present : List Bool) → tim.group ≡ false →
+    IsTim xs tim present → IsTim (with_group_bit group xs) (record tim { group = group }) present
+bit_is_tim false tim xs present none is = subst (λ g. IsTim xs (record tim { group = g }) present) none is
+bit_is_tim true tim [] present none is = absurd (omega (arith, is.long))
+bit_is_tim true tim (a ∷ []) present none is = absurd (omega (arith, is.long))
+bit_is_tim true tim (a ∷ b ∷ []) present none is = absurd (omega (arith, is.long))
+bit_is_tim true tim (a ∷ b ∷ c ∷ []) present none is = absurd (omega (arith, is.long))
+bit_is_tim true tim (a ∷ b ∷ c ∷ d ∷ []) present none is = absurd (omega (arith, is.long))
+bit_is_tim true tim (a ∷ b ∷ c ∷ d ∷ e ∷ xs) present none is = record {
+  long = is.long;
+  id = is.id;
+  size = is.size;
+  ends = subst (λ f. f + (suc (suc (suc (suc (suc (length xs))))) - 5) ≤ 251) same is.ends;
+  count = is.count;
+  period = is.period;
+  group = ap (λ o. o == 1) odd;
+  stations = λ n below. ap (λ o. is_set o (n % 8)) (whole (n / 8)) ∙ is.stations n below;
+}
+  where
+    even : bit_at e 0 ≡ 0
+    even = zero_bit (bit_at e 0) (bit_at-lt e 0) (is.group ∙ none)
+
+    odd : bit_at (e + 1) 0 ≡ 1
+    odd = omega (arith, even)
+
+    same : 2 * (e / 2) ≡ 2 * ((e + 1) / 2)
+    same = omega (arith, even)
+
+    whole : (k : ℕ) → whole_octet (a ∷ b ∷ c ∷ d ∷ (e + 1) ∷ xs) k ≡ whole_octet (a ∷ b ∷ c ∷ d ∷ e ∷ xs) k
+    whole k =
+        ap (λ f. if nat_le f k then get_or (a ∷ b ∷ c ∷ d ∷ (e + 1) ∷ xs) (5 + (k - f)) 0 else 0) (sym same)
+        ∙ ap (λ o. if nat_le (2 * (e / 2)) k then o else 0)
+        (sixth a b c d (e + 1) xs (k - 2 * (e / 2)) ∙ sym (sixth a b c d e xs (k - 2 * (e / 2))))
 
 -- ---- one iteration of the loop over the entries
 pub bit_added : (present : List Bool) (bitmap : List ℕ) (aid : ℕ) → length bitmap ≡ 251 → aid < 2008 →

@@ -7,6 +7,7 @@ pub mod Fields
 pub mod Addresses
 pub mod HeaderLayout
 pub mod HeaderFaults
+pub mod GroupLayout
 pub mod BlockFaults
 pub mod BlockLayout
 pub mod Tim

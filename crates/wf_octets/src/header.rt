@@ -1,5 +1,5 @@
-//! MAC headers of the six kinds of frames that a block acknowledgement session exchanges (IEEE 802.11-2012,
-//! 8.2.4 and 8.3).
+//! MAC headers of the six kinds of frames that a block acknowledgement session exchanges, and of group frames
+//! (IEEE 802.11-2012, 8.2.4 and 8.3).
 //!
 //! The writer writes the layout with reserved bits 0. The reader returns Ok exactly for octets of the layout,
 //! and otherwise the first fault.
@@ -11,10 +11,12 @@ use wf_frame::GREATEST_BODY;
 
 mod decoding;
 mod encoding;
+mod group;
 mod header;
 
 pub use decoding::{HeaderFault, decode};
 pub use encoding::encode;
+pub use group::{GROUP_HEADER_OCTETS, GroupHeader, encode_group};
 pub use header::{DATA_HEADER_OCTETS, Header, Kind};
 
 /// The greatest size of a data frame in octets, without its check sequence: the header and the greatest body.

@@ -5,7 +5,7 @@
 
 ghost use Rattle.std.specs.Prelude.{◌≡◌, ℕ, ◌+◌, ◌*◌, ◌/◌, ◌%◌, ◌<◌, ◌≤◌, Bool, false, List, Some, None, Ok, IfSome, IfOk, OnOk, OnErr, length, slice_index, slice_index_or, take, drop};
 ghost use Rattle.wf_octets.specs.Tim.{IsTim, aids_of, ends_of, octets_between, whole_octet, first_octet_of_bitmap};
-ghost use Rattle.wf_def_tim.specs.Tim.{map_octet, tim_element};
+ghost use Rattle.wf_def_tim.specs.Tim.{map_octet, tim_element, with_group_bit};
 ghost use Rattle.wf_octets.specs.Fields.{is_set};
 ghost use Rattle.std.specs.Result.{result_err};
 ghost use Rattle.wf_octets.specs.TimFaults.{first_tim_fault};
@@ -48,24 +48,25 @@ pub enum TimFault {
     },
 }
 
-/// Writes the shortest TIM element of the association identifiers (AID) that are present, without group
-/// traffic, and returns its size in octets. `present[n]` is for AID n. Octets after the element are
-/// unchanged.
-pub fn encode_tim(present: &[bool], count: u8, period: u8, out: &mut [u8; 256]) -> usize
+/// Writes the shortest TIM element with these fields and the association identifiers (AID) that are present,
+/// and returns its size in octets. `present[n]` is for AID n. Octets after the element are unchanged.
+pub fn encode_tim(present: &[bool], tim: Tim, out: &mut [u8; 256]) -> usize
     requires room { length present.now ≤ 2008 }
     requires no_group { slice_index_or present.now 0 false ≡ false }
-    ensures octets { take result out.new ≡ tim_element count period (aids_of present.now) }
-    ensures size { result ≡ length (tim_element count period (aids_of present.now)) }
+    ensures octets { take result out.new ≡
+        with_group_bit tim.group (tim_element tim.count tim.period (aids_of present.now)) }
+    ensures size { result ≡
+        length (with_group_bit tim.group (tim_element tim.count tim.period (aids_of present.now))) }
     ensures rest { drop result out.new ≡ drop result out.old }
-    ensures layout { IsTim (take result out.new)
-        (record { count = count; period = period; group = false }) present.now }
+    ensures layout { IsTim (take result out.new) tim present.now }
 {
     let (bitmap, ends) = bitmap_of(present);
     let (first, last) = octets_of(ends);
+    let control = first as u8 + u8::from(tim.group);
     let end = put(
         out,
         0,
-        &[5, (last - first + 4) as u8, count, period, first as u8],
+        &[5, (last - first + 4) as u8, tim.count, tim.period, control],
     );
     put(out, end, &bitmap[first..last + 1])
 }
