@@ -10,8 +10,8 @@ use Rattle.wf_frame.specs.Frames.{FrameValue}
 use Rattle.wf_frame.specs.declared.classes.Fate.TheVariants.{Dropped}
 use Rattle.wf_frame.specs.declared.classes.Cause.{Cause}
 use Rattle.wf_def_lists.specs.Lengths.{greatest_body}
-use Rattle.wf_def_codel.specs.Codel.{Codel, new_codel}
-use Rattle.wf_queue_flows.specs.Backlog.{BacklogValue, frames_at, in_queues, held_in_backlog, queue_octets, octets_per_queue, is_some_frame, frame_with_fate, codel_at, with_frames, after_emptying, unchanged, renewed, IsLongest, IsBodySized, IsBacklogKept}
+use Rattle.wf_def_codel.specs.Codel.{Codel, new_codel, renewed}
+use Rattle.wf_queue_flows.specs.Backlog.{BacklogValue, frames_at, in_queues, held_in_backlog, queue_octets, octets_per_queue, is_some_frame, frame_with_fate, codel_at, with_frames, after_emptying, unchanged, IsLongest, IsBodySized, IsBacklogKept}
 use Rattle.wf_queue_flows.proofs.Flags.{flag_pushed}
 use Rattle.wf_queue_flows.proofs.Fresh.{no_flags}
 
@@ -283,12 +283,14 @@ empty_done cause v q empty =
       finished = finished i;
     })
 
--- the CoDel state of a queue that was emptied becomes new
+-- the CoDel state of a queue that was emptied becomes new, but keeps its number of drops
 pub empty_renewed : (cause : Cause) (v v1 : BacklogValue) (q : ℕ) → v1 ≡ after_emptying cause unchanged v q →
-    record v1 { codels = set v1.codels q new_codel } ≡ after_emptying cause renewed v q
+    record v1 { codels = set v1.codels q (renewed (codel_at v1 q)) } ≡ after_emptying cause renewed v q
 empty_renewed cause v v1 q is =
-    let renew : BacklogValue → BacklogValue = λ b. record b { codels = set b.codels q new_codel } in
+    let renew : BacklogValue → BacklogValue = λ b.
+    record b { codels = set b.codels q (renewed (codel_at b q)) } in
     let emptied : BacklogValue = after_emptying cause unchanged v q in
+    let with_states : List Codel → BacklogValue = λ states. record emptied { codels = states } in
     ap renew is
-    ∙ ap (λ (states : List Codel). let b : BacklogValue = record emptied { codels = states } in b)
-    (set-set v.codels q (codel_at v q) new_codel)
+    ∙ ap (λ (states : List Codel). with_states (set states q (renewed (get_or states q new_codel))))
+    (set-get_or v.codels q new_codel)

@@ -148,14 +148,16 @@ module _ {X : Type 0} (view : X → Item) (tossed : X → X) (p : Params) (now :
       (lt-ltb now due early) ∙ ap (λ a. gives thrown (record c { first_above = a; drop_next = due })
       (x ∷ rest)) saw-above
 
-  pub more-step : (count step : ℕ) (thrown' items : List X) → ok ≡ true → due ≤ now → count ≡ rise c.count →
+  pub more-step : (count dropped step : ℕ) (thrown' items : List X) → ok ≡ true → due ≤ now →
+      count ≡ rise c.count → dropped ≡ rise c.dropped →
       step ≡ step_of p.interval count → thrown' ≡ thrown ++ tossed x ∷ [] → items ≡ rest →
       while_dropping view tossed p now c due thrown (x ∷ rest)
-      ≡ while_dropping view tossed p now (record c { first_above = above; drop_next = due; count = count })
+      ≡ while_dropping view tossed p now
+      (record c { first_above = above; drop_next = due; count = count; dropped = dropped })
       (due + step) thrown' items
-  more-step count step thrown' items good late count_is step_is thrown_is items_is =
+  more-step count dropped step thrown' items good late count_is dropped_is step_is thrown_is items_is =
       while-more view tossed p now c due thrown x rest (saw-ok true good) (le-ltb now due late)
-      ∙ rw (saw-above, step_is, count_is, thrown_is, items_is) refl
+      ∙ rw (saw-above, step_is, count_is, dropped_is, thrown_is, items_is) refl
 
 -- a dequeue that drops while it is dropping, step by step
 pub record Finished {X : Type 0} (view : X → Item) (tossed : X → X) (p : Params) (now : ℕ) (c : Codel)

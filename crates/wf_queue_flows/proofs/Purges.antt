@@ -7,14 +7,14 @@ use Rattle.std.proofs.lemmas.List.Elements.{filter-append}
 use Rattle.std.proofs.lemmas.Bool.{cases_eq, cases_lt, cases_Bool, ne_eqb, le-leb, lt-leb}
 use Rattle.wf_frame.specs.declared.classes.Cause.{Cause}
 use Rattle.wf_frame.specs.declared.classes.Cause.TheVariants.{Left}
-use Rattle.wf_def_codel.specs.Codel.{Codel}
+use Rattle.wf_def_codel.specs.Codel.{Codel, renewed}
 use Rattle.wf_def_lists.specs.Table.{has, count_from, upto}
 use Rattle.wf_def_rotation.specs.Rotation.{Rotation, no_keys, has_key, in_order, without_key}
 use Rattle.wf_def_lists.specs.Lists.{on}
 use Rattle.wf_rotation.specs.Lists.{AreDisjoint, lists_at, on_at}
 use Rattle.wf_law_rules.proofs.Lemmas.Counts.{on-nil, on-first, on-cons_same, on-cons_other, on-append, on-filter_out, listed-none}
 use Rattle.wf_law_rules.proofs.Lemmas.Counts.{on_order-none}
-use Rattle.wf_queue_flows.specs.Backlog.{BacklogValue, after_emptying, renewed}
+use Rattle.wf_queue_flows.specs.Backlog.{BacklogValue, after_emptying}
 use Rattle.wf_queue_flows.specs.Flows.{FlowsValue, tids, tid_rotation, is_listed, queues, queues_of, all_emptied, after_purge}
 use Rattle.wf_queue_flows.specs.Kept.{AreFlowsKept, rest_from, without_queue, purged_below}
 use Rattle.wf_queue_flows.proofs.Owners.{on-listed}

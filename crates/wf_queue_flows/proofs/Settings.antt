@@ -4,8 +4,8 @@ use Rattle.std.proofs.lemmas.Bool.{cond_both}
 use Rattle.wf_frame.specs.Frames.{FrameValue}
 use Rattle.wf_frame.specs.declared.classes.Cause.{Cause}
 use Rattle.wf_frame.specs.declared.classes.Cause.TheVariants.{Left, Flushed}
-use Rattle.wf_def_codel.specs.Codel.{Codel}
-use Rattle.wf_queue_flows.specs.Backlog.{BacklogValue, with_calmed, backlog_when_listed, after_emptying, unchanged, renewed}
+use Rattle.wf_def_codel.specs.Codel.{Codel, renewed}
+use Rattle.wf_queue_flows.specs.Backlog.{BacklogValue, with_calmed, backlog_when_listed, after_emptying, unchanged}
 use Rattle.wf_queue_flows.specs.Flows.{flows_at_limit, FlowsValue, SettingsValue, settings, is_listed, after_limit, queue_for, with_listed_queue, after_put, queues_of, all_emptied, after_purge, after_tid_flush}
 
 settings_within : (v : FlowsValue) → settings (after_limit v) ≡ settings v

@@ -93,12 +93,9 @@ after_head_drop v q = record v {
   finished = v.finished ++ map (frame_with_fate (Dropped Overlimit)) (take 1 (frames_at v q));
 }
 
--- the CoDel state of a queue whose frames are dropped: it stays, or becomes new
+-- the CoDel state of a queue whose frames are dropped and whose station stays
 abbrev pub unchanged : Codel → Codel
 unchanged c = c
-
-abbrev pub renewed : Codel → Codel
-renewed c = new_codel
 
 -- all frames of queue q go in order last on the finished list, as dropped for this cause, and its CoDel state
 -- becomes `codel` of it

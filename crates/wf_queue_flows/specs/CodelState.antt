@@ -10,6 +10,7 @@ codel_state_of c = record {
   count = c.count;
   last_count = c.last_count;
   dropping = c.dropping;
+  dropped = c.dropped;
 }
 
 abbrev pub fields_of : Codel → Inside
@@ -20,6 +21,7 @@ fields_of c = record {
   last_count =
       c.last_count;
   dropping = c.dropping;
+  dropped = c.dropped;
 }
 
 -- while it drops, at least one frame was dropped, since the control law divides by the count

@@ -9,13 +9,13 @@ use Rattle.wf_frame.specs.declared.classes.Cause.{Cause}
 use Rattle.wf_frame.specs.declared.classes.Cause.TheVariants.{Left, Flushed}
 use Rattle.wf_def_lists.specs.Table.{upto}
 use Rattle.wf_frame.specs.declared.settings.Config.{Config}
-use Rattle.wf_def_codel.specs.Codel.{Params, Codel, new_codel}
+use Rattle.wf_def_codel.specs.Codel.{Params, Codel, new_codel, renewed}
 use Rattle.wf_def_rotation.specs.Rotation.{Rotation, no_keys, has_key, in_order, with_new_key, Picked, pick}
 use Rattle.wf_rotation.specs.Lists.{lists_at}
 use Rattle.wf_rotation.specs.Rotas.{Rotas, deficit_at, need_at}
 use Rattle.wf_def_world.specs.World.{Queue}
 use Rattle.wf_def_world.specs.FlowQueues.{longest_of}
-use Rattle.wf_queue_flows.specs.Backlog.{BacklogValue, frames_at, queue_octets, in_queues, first_id, item_of, with_frames, backlog_when_listed, after_head_drop, after_emptying, unchanged, renewed, given_at, backlog_after_take}
+use Rattle.wf_queue_flows.specs.Backlog.{BacklogValue, frames_at, queue_octets, in_queues, first_id, item_of, with_frames, backlog_when_listed, after_head_drop, after_emptying, unchanged, given_at, backlog_after_take}
 
 -- Queues below `flows` are shared by all TIDs; each TID has one more, its overflow queue. Queue q is key q of
 -- the rotations.

@@ -8,7 +8,8 @@ use Rattle.wf_def_rotation.specs.Rotation.{Rotation, has_key as lists_of, in_ord
 use Rattle.wf_rotation.specs.Lists.{AreDisjoint, lists_at, on_at}
 use Rattle.wf_rotation.specs.Rotas.{Rotas, deficit_at, quantum_at, picked_at, is_ready as is_ready_of}
 use Rattle.wf_frame.specs.declared.classes.Cause.TheVariants.{Left, Flushed}
-use Rattle.wf_queue_flows.specs.Backlog.{after_emptying, unchanged, renewed}
+use Rattle.wf_def_codel.specs.Codel.{renewed}
+use Rattle.wf_queue_flows.specs.Backlog.{after_emptying, unchanged}
 use Rattle.wf_queue_flows.specs.Flows.{FlowsValue, tid_rotation, is_listed, frames_waiting, all_emptied}
 
 -- the number of frames in a queue

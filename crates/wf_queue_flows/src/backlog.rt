@@ -1,8 +1,8 @@
 //! Numbered queues of parcels, each with a CoDel state, and the list of the finished parcels.
 
 ghost use Rattle.std.specs.Prelude.{◌≡◌, ◌+◌, ◌^◌, true, drop, ◌<◌, ◌≤◌, ◌↔◌, [], ◌∷◌, ◌++◌, Some, length, replicate, is_some, if◌then◌else◌, IfOk, IfNone, IfSome, IsNone, MatchOption};
-ghost use Rattle.wf_def_codel.specs.Codel.{new_codel};
-ghost use Rattle.wf_queue_flows.specs.Backlog.{frames_at, queue_octets, codel_at, in_queues, held_in_backlog, spare_of, first_id, frame_with_fate, with_frames, backlog_when_listed, after_head_drop, after_emptying, unchanged, renewed, IsLongest};
+ghost use Rattle.wf_def_codel.specs.Codel.{new_codel, renewed};
+ghost use Rattle.wf_queue_flows.specs.Backlog.{frames_at, queue_octets, codel_at, in_queues, held_in_backlog, spare_of, first_id, frame_with_fate, with_frames, backlog_when_listed, after_head_drop, after_emptying, unchanged, IsLongest};
 ghost use Rattle.std.specs.List.{list_any};
 ghost use Rattle.wf_frame.specs.declared.classes.Cause.TheVariants.{Left};
 ghost use Rattle.wf_queue_flows.specs.Flows.{longest_queue, is_of_queue};
@@ -63,7 +63,7 @@ impl Model for Backlog {
 pub(crate) fn settle(mut parcel: Parcel, fate: Fate) -> Parcel
     ensures { result ≡ frame_with_fate fate parcel }
 {
-    parcel.frame_mut().settle(fate);
+    parcel.frame_mut().fate = fate;
     parcel
 }
 
@@ -172,7 +172,7 @@ impl Backlog {
     {
         let head = self.pop(from).unwrap();
         self.push(to, parcel);
-        let id = head.frame().id();
+        let id = head.frame().id;
         self.finish(settle(head, Fate::Dropped(Cause::Overlimit)));
         id
     }
@@ -193,7 +193,7 @@ impl Backlog {
     }
 
     /// Drops all frames of a queue as `Dropped(Left)`, since their station left, and the queue's CoDel state
-    /// becomes new. Returns their number.
+    /// becomes new, except for its number of dropped frames. Returns their number.
     pub fn purge(&mut self, q: u32) -> u32
         requires { q < length self.old.queues }
         ensures count { result ≡ length (frames_at self.old q) }
@@ -201,7 +201,7 @@ impl Backlog {
         ensures held { held_in_backlog self.new ≡ held_in_backlog self.old }
     {
         let count = self.empty_queue(q, Cause::Left);
-        self.codels[q as usize] = Codel::new();
+        self.codels[q as usize].renew();
         count
     }
 

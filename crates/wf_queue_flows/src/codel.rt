@@ -3,7 +3,7 @@
 
 ghost use Rattle.std.specs.Prelude.{◌≡◌, ℕ, List, ◌+◌, ◌*◌, ◌/◌, ◌<◌, ◌≤◌, ◌↔◌, ◌^◌, [], ◌∷◌, ◌++◌, IsTrue, IfSome, IsNone, MatchOption, map, take, if◌then◌else◌, is_some};
 ghost use Rattle.std.specs.Option.{option_map};
-ghost use Rattle.wf_def_codel.specs.Codel.{IsGreatestStep, step_of, octets, new_codel, dequeue, Item as Seen, drops_dropping, state_dropping, drops, state_after};
+ghost use Rattle.wf_def_codel.specs.Codel.{IsGreatestStep, step_of, octets, new_codel, renewed, dequeue, Item as Seen, drops_dropping, state_dropping, drops, state_after};
 ghost use Rattle.wf_queue_flows.specs.CodelTakes.{Takes};
 ghost use Rattle.wf_queue_flows.specs.CodelLooks.{look_by, count_again, started};
 ghost use Rattle.wf_def_codel.specs.Parameters.{params_at};
@@ -139,6 +139,8 @@ pub struct Codel {
     count: u32,
     last_count: u32,
     dropping: bool,
+    /// The number of frames that it dropped since the start, at most the greatest u32.
+    dropped: u32,
 }
 
 impl Model for Codel {
@@ -194,6 +196,7 @@ impl Codel {
             count: 0,
             last_count: 0,
             dropping: false,
+            dropped: 0,
         }
     }
 
@@ -219,6 +222,24 @@ impl Codel {
         ensures { result ≡ self.now.drop_next }
     {
         self.drop_next
+    }
+
+    /// Returns the number of frames that it dropped from the lane since the start. It stays at 4,294,967,295
+    /// once it is there. Frames that are dropped for another cause than CoDel, such as the limit, do not
+    /// count.
+    pub fn dropped(&self) -> u32
+        ensures { result ≡ self.now.dropped }
+    {
+        self.dropped
+    }
+
+    /// Makes the state new, except for the number of dropped frames, which stays.
+    pub fn renew(&mut self)
+        ensures { self.new ≡ renewed self.old }
+    {
+        let dropped = self.dropped;
+        *self = Codel::new();
+        self.dropped = dropped;
     }
 
     /// Ends the dropping state, and forgets that frames waited too long. The numbers of the control law stay.
@@ -322,6 +343,7 @@ impl Codel {
             }
             lane.discard(item);
             self.count = self.count.saturating_add(1);
+            self.dropped = self.dropped.saturating_add(1);
             due += root_step(params.interval, self.count);
             match lane.pop() {
                 None => {
@@ -337,7 +359,7 @@ impl Codel {
         }
     }
 
-    // Begins to drop, after one drop.
+    // Begins to drop, with one drop.
     fn start(&mut self, now: u64, params: Params, first_above: u64)
         requires { now < 2 ^ 62 }
         ensures { self.new ≡ started (params_of params) now self.old first_above }
@@ -348,5 +370,6 @@ impl Codel {
         self.count = count;
         self.last_count = count;
         self.dropping = true;
+        self.dropped = self.dropped.saturating_add(1);
     }
 }

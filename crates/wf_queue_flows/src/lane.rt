@@ -49,7 +49,7 @@ impl<'a> Lane for OneQueue<'a> {
         let parcel = self.backlog.pop(self.queue)?;
         let backlog: &Backlog = self.backlog;
         let sight = Sight {
-            stamp: parcel.frame().stamp(),
+            stamp: parcel.frame().stamp,
             left: backlog.octets.value(self.queue),
         };
         Some((parcel, sight))

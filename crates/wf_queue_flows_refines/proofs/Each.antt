@@ -9,8 +9,8 @@ use Rattle.wf_frame.specs.Frames.{FrameValue}
 use Rattle.wf_frame.specs.declared.classes.Cause.{Cause}
 use Rattle.wf_frame.specs.declared.classes.Cause.TheVariants.{Overlimit, Codel as By_codel, Left, Flushed}
 use Rattle.wf_frame.specs.declared.classes.Fate.TheVariants.{Dropped}
-use Rattle.wf_def_codel.specs.Codel.{Codel, Params}
-use Rattle.wf_queue_flows.specs.Backlog.{BacklogValue, frames_at, frame_with_fate, with_calmed, codel_at, after_head_drop, after_emptying, unchanged, renewed, dequeue_at, drops_at}
+use Rattle.wf_def_codel.specs.Codel.{Codel, Params, renewed}
+use Rattle.wf_queue_flows.specs.Backlog.{BacklogValue, frames_at, frame_with_fate, with_calmed, codel_at, after_head_drop, after_emptying, unchanged, dequeue_at, drops_at}
 use Rattle.wf_queue_flows.specs.Flows.{FlowsValue, flows_at_limit, is_listed, longest_queue, after_limit, queue_for, with_listed_queue, with_appended, after_put, pick_of_tid, after_pick, taken_from_picked, taken_for_tid, queues_of, all_emptied, after_purge, after_tid_flush}
 use Rattle.wf_queue_flows_refines.specs.Standing.{with_finished}
 use Rattle.wf_queue_flows_refines.specs.Frames.{HasEach, DropsTo}

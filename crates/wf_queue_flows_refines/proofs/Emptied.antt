@@ -3,7 +3,8 @@ use Rattle.std.proofs.Common.{◌≡◌, refl, ℕ, List, [], ◌∷◌}
 use Rattle.wf_frame.specs.declared.classes.Cause.TheVariants.{Left, Flushed}
 use Rattle.wf_def_world.specs.World.{World}
 use Rattle.wf_def_world.specs.FlowQueues.{after_queue_left, after_queues_left, after_queue_flushed, after_queues_flushed}
-use Rattle.wf_queue_flows.specs.Backlog.{unchanged, renewed}
+use Rattle.wf_def_codel.specs.Codel.{renewed}
+use Rattle.wf_queue_flows.specs.Backlog.{unchanged}
 use Rattle.wf_queue_flows_refines.specs.Standing.{queue_emptied, queues_emptied}
 
 pub queues_left : (qs : List ℕ) (w : World) → queues_emptied Left renewed w qs ≡ after_queues_left w qs

@@ -10,7 +10,7 @@ use Rattle.wf_frame.specs.declared.classes.Fate.TheVariants.{Held, Dropped}
 use Rattle.wf_frame.specs.declared.notes.Note.TheVariants.{Enqueue}
 use Rattle.wf_frame.specs.Frames.{FrameValue}
 use Rattle.wf_def_lists.specs.Table.{at}
-use Rattle.wf_def_codel.specs.Codel.{Codel, Params}
+use Rattle.wf_def_codel.specs.Codel.{Codel, Params, renewed}
 use Rattle.wf_def_lists.specs.Lists.{on}
 use Rattle.wf_def_rotation.specs.Rotation.{Rotation}
 use Rattle.wf_law_rules.proofs.Lemmas.Counts.{on-nil, on-append, on-cons_same, on-cons_other}
@@ -19,7 +19,7 @@ use Rattle.wf_def_world.specs.FlowQueues.{after_limit as world_after_limit, queu
 use Rattle.wf_def_world.specs.Step.{with_frame, next_item, enqueue_outcome, reap_outcome, waiting_ids, after_tid_left}
 use Rattle.wf_law_runs.proofs.Deficits.Books.{put_upd, upd_other}
 use Rattle.wf_law_runs.proofs.Queues.ShelvedStep.{accepted_put}
-use Rattle.wf_queue_flows.specs.Backlog.{BacklogValue, frames_at, with_calmed, after_emptying, unchanged, renewed, drops_at}
+use Rattle.wf_queue_flows.specs.Backlog.{BacklogValue, frames_at, with_calmed, after_emptying, unchanged, drops_at}
 use Rattle.wf_frame.specs.Classes.{tid_number}
 use Rattle.wf_queue_flows.specs.Flows.{FlowsValue, flows_at_limit, is_listed, longest_queue, after_limit, queue_for, with_listed_queue, with_appended, after_put, pick_of_tid, after_pick, taken_from_picked, taken_for_tid, queues_of, all_emptied, after_purge, after_tid_flush}
 use Rattle.wf_queue_flows_refines.specs.Standing.{ids, times_held, with_finished, queue_emptied, waiting_flushed, FlowsStandFor, tid_emptied}

@@ -9,12 +9,12 @@ use Rattle.wf_frame.specs.declared.classes.Fate.{Fate}
 use Rattle.wf_frame.specs.declared.classes.Fate.TheVariants.{Dropped}
 use Rattle.wf_frame.specs.Frames.{FrameValue}
 use Rattle.wf_def_lists.specs.Table.{has, upto}
-use Rattle.wf_def_codel.specs.Codel.{Codel, Params}
+use Rattle.wf_def_codel.specs.Codel.{Codel, Params, renewed}
 use Rattle.wf_def_lists.specs.Lists.{on}
 use Rattle.wf_rotation.specs.Rotas.{need_at}
 use Rattle.wf_law_rules.proofs.Lemmas.Counts.{on-nil, on-first}
 use Rattle.wf_law_rules.proofs.Lemmas.Members.{has_filter, has_head, has_tail}
-use Rattle.wf_queue_flows.specs.Backlog.{BacklogValue, frames_at, frame_with_fate, with_calmed, after_head_drop, after_emptying, unchanged, renewed, drops_at}
+use Rattle.wf_queue_flows.specs.Backlog.{BacklogValue, frames_at, frame_with_fate, with_calmed, after_head_drop, after_emptying, unchanged, drops_at}
 use Rattle.wf_frame.specs.Classes.{tid_number}
 use Rattle.wf_queue_flows.specs.Flows.{FlowsValue, queues as queue_count, tid_rotation, is_listed, backlog_has_frames, longest_queue, after_limit, queue_for, with_listed_queue, with_appended, after_put, pick_of_tid, after_pick, taken_from_picked, queues_of, all_emptied, after_purge, after_tid_flush, taken_for_tid as take_out, flows_at_limit}
 use Rattle.wf_queue_flows.proofs.Flags.{nothing_dropped}

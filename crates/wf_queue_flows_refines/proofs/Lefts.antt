@@ -10,7 +10,7 @@ use Rattle.wf_frame.specs.declared.classes.Cause.TheVariants.{Left, Flushed}
 use Rattle.wf_frame.specs.declared.classes.Fate.{Fate}
 use Rattle.wf_frame.specs.declared.classes.Fate.TheVariants.{Dropped}
 use Rattle.wf_def_lists.specs.Table.{at, has, upto, count_from}
-use Rattle.wf_def_codel.specs.Codel.{Item, Codel}
+use Rattle.wf_def_codel.specs.Codel.{Item, Codel, renewed}
 use Rattle.wf_def_rotation.specs.Rotation.{Rotation, no_keys, in_order}
 use Rattle.wf_def_lists.specs.Lists.{on}
 use Rattle.wf_law_rules.proofs.Lemmas.Counts.{on-nil, on-cons_same, on-cons_other, on-first, on-filter, on-filter_out, on_order-none}
@@ -18,7 +18,7 @@ use Rattle.wf_law_rules.proofs.Lemmas.Members.{has_head, has_tail, has_filter}
 use Rattle.wf_def_world.specs.World.{World, Station, no_tid, no_station, queue, tid_of, session, on_queue, with_queues, with_frames_finished}
 use Rattle.wf_def_world.specs.FlowQueues.{after_queues_left, after_queues_flushed}
 use Rattle.wf_def_world.specs.Step.{waiting_ids, in_rising_order, after_tid_left}
-use Rattle.wf_queue_flows.specs.Backlog.{BacklogValue, frames_at, frame_with_fate, after_emptying, unchanged, renewed}
+use Rattle.wf_queue_flows.specs.Backlog.{BacklogValue, frames_at, frame_with_fate, after_emptying, unchanged}
 use Rattle.wf_frame.specs.Classes.{tid_number}
 use Rattle.wf_queue_flows.specs.Flows.{FlowsValue, queues as queue_count, tid_rotation, is_listed, frames_waiting, frames_of_tid, queues_of, all_emptied, after_purge, after_tid_flush}
 use Rattle.wf_queue_flows.proofs.Owners.{on-listed}

@@ -10,7 +10,7 @@ use Rattle.wf_frame.specs.declared.classes.Fate.{Fate}
 use Rattle.wf_frame.specs.declared.classes.Fate.TheVariants.{Dropped}
 use Rattle.wf_frame.specs.Frames.{FrameValue}
 use Rattle.wf_def_lists.specs.Table.{at, has, upto}
-use Rattle.wf_def_codel.specs.Codel.{Item, Codel}
+use Rattle.wf_def_codel.specs.Codel.{Item, Codel, renewed}
 use Rattle.wf_def_rotation.specs.Rotation.{Rotation, no_keys, has_key, in_order}
 use Rattle.wf_def_lists.specs.Lists.{on}
 use Rattle.wf_rotation.specs.Rotas.{deficit_at}
@@ -19,7 +19,7 @@ use Rattle.wf_law_rules.proofs.Lemmas.Members.{has_head, has_tail, has_filter}
 use Rattle.wf_def_world.specs.World.{World, Station, Queue, with_station, on_station, on_tid, no_station, no_tid, is_live, queue, tid_of, session, accepted_count, on_queue, with_queues, with_fate, with_frame_finished, with_frames_finished}
 use Rattle.wf_def_world.specs.FlowQueues.{after_queues_left}
 use Rattle.wf_def_world.specs.Step.{waiting_ids, in_rising_order, after_tid_left}
-use Rattle.wf_queue_flows.specs.Backlog.{frames_at, item_of, codel_at, frame_with_fate, after_emptying, renewed}
+use Rattle.wf_queue_flows.specs.Backlog.{frames_at, item_of, codel_at, frame_with_fate, after_emptying}
 use Rattle.wf_frame.specs.Classes.{tid_number}
 use Rattle.wf_queue_flows.specs.Flows.{FlowsValue, SettingsValue, queues as queue_count, tid_rotation, queues_of, all_emptied, after_purge}
 use Rattle.wf_queue_flows_refines.specs.Standing.{Part, flows_part, ids, with_finished, queue_emptied, queues_emptied, Stands, FlowsStandFor}

@@ -6,13 +6,13 @@ use Rattle.wf_frame.specs.declared.classes.Cause.{Cause}
 use Rattle.wf_frame.specs.declared.classes.Cause.TheVariants.{Left, Flushed}
 use Rattle.wf_frame.specs.declared.classes.Fate.{Fate}
 use Rattle.wf_frame.specs.declared.classes.Fate.TheVariants.{Dropped}
-use Rattle.wf_def_codel.specs.Codel.{Item, Codel, Dequeued}
+use Rattle.wf_def_codel.specs.Codel.{Item, Codel, Dequeued, renewed}
 use Rattle.wf_def_rotation.specs.Rotation.{Rotation, no_keys, has_key, in_order}
 use Rattle.wf_def_agreement.specs.Session.{after_flush}
 use Rattle.wf_def_world.specs.World.{World, Queue, queue, tid_of, session, on_queue, on_session, with_queues, with_frame_finished, with_frames_finished}
 use Rattle.wf_def_world.specs.FlowQueues.{is_at_limit, longest_queue, without_head, after_limit, with_listed_queue, with_appended, after_put_in, with_queues_paid, picked_queue, taken_by_codel, taken_from_picked, taken_for_tid, after_queues_left, after_queues_flushed}
 use Rattle.wf_def_world.specs.Step.{waiting_ids, in_rising_order, after_tid_left}
-use Rattle.wf_queue_flows.specs.Backlog.{unchanged, renewed}
+use Rattle.wf_queue_flows.specs.Backlog.{unchanged}
 use Rattle.wf_queue_flows_refines.specs.Standing.{queue_emptied, queues_emptied, waiting_flushed, tid_emptied}
 use Rattle.wf_queue_flows_refines.proofs.Emptied.{queues_left, queues_flushed}
 

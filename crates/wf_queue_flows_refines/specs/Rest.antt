@@ -5,6 +5,7 @@ use Rattle.wf_def_lists.specs.Table.{at}
 use Rattle.wf_def_rotation.specs.Rotation.{Rotation}
 use Rattle.wf_def_agreement.specs.Session.{Session}
 use Rattle.wf_def_agreement.specs.Receiver.{Receiver}
+use Rattle.wf_def_world.specs.Group.{GroupState}
 use Rattle.wf_def_world.specs.World.{World, Mode, Bounds, Station, Exchange, no_station, no_tid}
 
 -- a station without its TIDs
@@ -31,6 +32,7 @@ pub record Rest : Type 0 where
   pub receivers : ℕ → ℕ → Receiver
   pub modes : ℕ → ℕ → Mode
   pub bounds : Bounds  -- those of the latest pull
+  pub group : GroupState
 
 abbrev pub rest_of_world : World → Rest
 rest_of_world w = record {
@@ -44,4 +46,5 @@ rest_of_world w = record {
   receivers = λ s. receiver_in (at None w.stations s);
   modes = λ s. mode_in (at None w.stations s);
   bounds = w.bounds;
+  group = w.group;
 }

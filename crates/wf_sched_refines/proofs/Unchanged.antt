@@ -3,6 +3,7 @@ use Rattle.std.proofs.Common.{◌≡◌, refl, ap, ap₂, sym, ◌∙◌, subst,
 use Rattle.wf_frame.specs.declared.classes.Class.{Class}
 use Rattle.wf_frame.specs.declared.classes.Fate.{Fate}
 use Rattle.wf_frame.specs.declared.notes.AskedRate.{AskedRate}
+use Rattle.wf_frame.specs.declared.notes.GroupAsk.{GroupAsk}
 use Rattle.wf_frame.specs.declared.notes.Note.{Note}
 use Rattle.wf_frame.specs.Classes.{class_number}
 use Rattle.wf_def_lists.specs.Table.{at, put, with_member}
@@ -12,7 +13,7 @@ use Rattle.wf_def_agreement.specs.Receiver.{Receiver, score}
 use Rattle.wf_def_world.specs.World.{World, Bounds, Station, Share, Mode, Tid, Queue, Exchange, Mpdu, Content, Frames, Request, no_share, is_live, is_agreed, receiver, exchange, on_station, with_station, on_tid, on_session, on_receiver, with_mode, with_queues, on_share, on_queue, with_fate, with_frame_finished, with_frames_finished, with_exchange, with_bounds}
 use Rattle.wf_def_world.specs.FlowQueues.{taken_for_tid, after_queue_flushed, after_queues_flushed}
 use Rattle.wf_def_world.specs.Exchanges.{after_arrival, after_tid_turn, without_credit, prepared_exchange, aggregate_of, with_failed_finished, with_settled, with_all_settled, caught_up, caught_up_if_plain, after_done}
-use Rattle.wf_def_world.specs.Step.{after_tids_left, with_frame, rate_outcome, tick_outcome, enqueue_outcome, arrive_outcome, answer_outcome, sleep_outcome, wake_outcome, poll_outcome, reap_outcome, ampdu_outcome, stop_outcome, start_outcome, unsent_outcome, give_up_outcome, flush_outcome, after_tid_flushed, hold_outcome, begin_outcome, free_outcome, cease_outcome}
+use Rattle.wf_def_world.specs.Step.{after_tids_left, with_frame, rate_outcome, tick_outcome, enqueue_outcome, arrive_outcome, answer_outcome, sleep_outcome, wake_outcome, poll_outcome, reap_outcome, ampdu_outcome, stop_outcome, start_outcome, unsent_outcome, give_up_outcome, flush_outcome, after_tid_flushed, hold_outcome, begin_outcome, free_outcome, cease_outcome, group_outcome}
 use Rattle.wf_def_lists.specs.Lists.{IsOnce}
 use Rattle.wf_law_rules.proofs.Lemmas.Tables.{at_put_same, at_put_other}
 use Rattle.wf_law_runs.proofs.Deficits.Books.{cases_class, account, core, Account, Books, books, with_account, books_with_station, books_on_queue, books_finish, books_finish_all}
@@ -318,6 +319,9 @@ credited_leaves w s = station_leaves w s _ (record { weight = λ x. refl; defici
 
 pub reaped_leaves : (w : World) (ids : List ℕ) → LeavesRotas w (reap_outcome w ids).world
 reaped_leaves w ids = leaves_same w _ (books_reaped ids w)
+
+pub grouped_leaves : (w : World) (ask : GroupAsk) → LeavesRotas w (group_outcome w ask).world
+grouped_leaves w ask = leaves_same w _ refl
 
 pub left_tids_leave : (w : World) (s : ℕ) (ts : List ℕ) → LeavesRotas w (after_tids_left w s ts)
 left_tids_leave w s ts = leaves_same w _ (books_left_tids ts w s)

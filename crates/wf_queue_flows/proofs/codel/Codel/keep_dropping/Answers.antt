@@ -54,8 +54,11 @@ looks-preserved g c = record {
       (g.L.Lane.rest c.looks.lane) c.looks.sight.stamp c.looks.sight.left c.look-above.result.0
       c.look-above.result.1
       c.looks.invariant.stamp c.looks.invariant.left c.look-above.ensures.above c.look-above.ensures.ok
-      c.saturating_add-self-inside.result c.root_step-due.result _ _ c.if-not-ok.false c.if-now-due.false
-      c.saturating_add-self-inside.ensures c.root_step-due.ensures.law
+      c.saturating_add-self-inside.result c.saturating_add-self-inside-in-looks.result
+      c.root_step-due.result _ _
+      c.if-not-ok.false c.if-now-due.false
+      c.saturating_add-self-inside.ensures c.saturating_add-self-inside-in-looks.ensures
+      c.root_step-due.ensures.law
       (c.in-Some.ensures.thrown ∙ c.discard.ensures.thrown)
       (sym c.in-Some.ensures.first ∙ c.discard.ensures.rest)) ∙ c.looks.invariant.outcome;
   stamp = c.in-Some.ensures.stamp;

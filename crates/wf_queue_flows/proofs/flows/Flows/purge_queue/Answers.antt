@@ -1,6 +1,6 @@
 -- The frames of the queue leave the TID's count, and the queue leaves the rotation.
 use Rattle.wf_frame.specs.declared.classes.Cause.TheVariants.{Left}
-use Rattle.wf_queue_flows.specs.Backlog.{renewed}
+use Rattle.wf_def_codel.specs.Codel.{renewed}
 use Rattle.wf_queue_flows.proofs.Leaves.{purge_fits, purge_keeps}
 use Rattle.wf_queue_flows.proofs.flows.Flows.purge_queue.Goals as goal
 
