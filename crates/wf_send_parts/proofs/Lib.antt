@@ -12,6 +12,7 @@ mod Finding
 pub mod Far
 mod Flying
 pub mod Fronts
+pub mod GroupFrames
 pub mod Held
 pub mod Laws
 pub mod Listing

@@ -12,6 +12,7 @@ pub mod Sent
 pub mod Window
 pub mod Windows
 pub mod Exchanges
+pub mod Group
 pub mod Kept
 pub mod Counted
 pub mod Members

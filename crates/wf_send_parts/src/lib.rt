@@ -1,6 +1,7 @@
 //! The parts of a transmit half other than its queues and its scheduler: the originator's windows of all TIDs
-//! (`window`), the open exchanges (`exchanges`), and the live and sleeping stations with the modes of their
-//! TIDs and the counts of frames by fate (`stations`). The three modules are independent of each other.
+//! (`window`), the open exchanges (`exchanges`), the live and sleeping stations with the modes of their TIDs
+//! and the counts of frames by fate (`stations`), and the group frames and beacons (`group`). The four
+//! modules are independent of each other.
 //!
 //! ```text
 //! let mut windows = Windows::new(alloc, 1)?;       // the eight windows of one station
@@ -12,5 +13,6 @@
 #![tactic(auto)]
 
 pub mod exchanges;
+pub mod group;
 pub mod stations;
 pub mod window;

@@ -4,7 +4,6 @@ ghost use Rattle.std.specs.Prelude.{◌≡◌, ◌<◌, ◌≤◌, ◌==◌, ◌
 ghost use Rattle.wf_frame.specs.Classes.{same_class};
 ghost use Rattle.wf_def_lists.specs.Bounds.{greatest_air};
 ghost use Rattle.wf_def_lists.specs.Lists.{IsRising};
-ghost use Rattle.wf_def_lists.specs.Table.{has};
 ghost use Rattle.wf_send_parts.specs.Counted.{airtime_place};
 
 use std::alloc::{AllocError, Global};
@@ -92,14 +91,6 @@ impl Open {
         matches!(&self.sending, Sending::Request(_))
     }
 
-    /// Returns whether the transmission of this index, 0 to 255, never went on the air.
-    pub fn is_unsent(&self, index: u16) -> bool
-        requires { index < 256 }
-        ensures { result ≡ has self.now.unsent index }
-    {
-        self.unsent.has(index)
-    }
-
     /// Returns whether the transmission of this index, 0 to 255, has a mark: it never went on the air, or the
     /// device will not try it again.
     pub fn is_marked(&self, index: u16) -> bool
@@ -114,7 +105,7 @@ impl Open {
         ensures { result ≡ has_nothing_sent self.now }
     {
         for index in 0..self.count() {
-            if !self.is_unsent(index) {
+            if !self.unsent.has(index) {
                 return false;
             }
         }

@@ -1,6 +1,6 @@
 //! Counts of the accepted frames, by fate.
 
-ghost use Rattle.std.specs.Prelude.{◌≡◌, ◌≢◌, ◌+◌, ◌<◌, ◌≤◌, ◌^◌};
+ghost use Rattle.std.specs.Prelude.{◌≡◌, ◌≢◌, ◌+◌, ◌≤◌};
 ghost use Rattle.wf_frame.specs.declared.classes.Fate.TheVariants.{Held};
 
 use wf_frame::{Cause, Fate};
@@ -28,7 +28,7 @@ pub struct Tally {
 }
 
 impl Tally {
-    ghost use Rattle.wf_send_parts.specs.Tally.{counts_of, held_in, many_settled_as, no_counts, one_accepted, settled_count, settled_as};
+    ghost use Rattle.wf_send_parts.specs.Tally.{counts_of, held_in, many_settled_as, no_counts, settled_count, settled_as};
 
     /// Returns counts of no frames.
     pub fn new() -> Tally
@@ -44,15 +44,6 @@ impl Tally {
             flushed: 0,
             ended: 0,
         }
-    }
-
-    /// Counts an accepted frame.
-    pub fn add(&mut self)
-        requires { self.old.accepted < 2 ^ 63 }
-        ensures accepted { counts_of self.new ≡ one_accepted (counts_of self.old) }
-        ensures held { held_in (counts_of self.new) ≡ held_in (counts_of self.old) + 1 }
-    {
-        self.accepted += 1;
     }
 
     /// Counts a held frame as one with this fate, which is not Held.

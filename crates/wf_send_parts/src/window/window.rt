@@ -149,7 +149,7 @@ fn take_flying(ring: &mut Ring, i: usize) -> (Parcel, u8, u64)
 fn finished(mut parcel: Parcel, fate: Fate) -> Parcel
     ensures { result ≡ with_fate fate parcel }
 {
-    parcel.frame_mut().settle(fate);
+    parcel.frame_mut().fate = fate;
     parcel
 }
 
@@ -336,7 +336,7 @@ impl Window {
     {
         let i = usize::from(seq.ahead(self.start));
         let (mut parcel, attempts) = take_waiting(&mut self.ring, i);
-        let id = parcel.frame().id();
+        let id = parcel.frame().id;
         parcel.frame_mut().send();
         let _ = self.ring.replace(
             i,

@@ -17,5 +17,5 @@ one_more p i n low holds =
 pub loop-index-preserved : goal.loop-index-preserved
 loop-index-preserved c =
     one_more (λ i. has c.args.self.now.unsent i) c.loop-index.index (transmissions_of c.args.self.now.sending)
-    (omega (arith, c.loop-index-test.true, c.count-index-end.ensures.count)) (sym c.if-not-is_unsent.ensures)
+    (omega (arith, c.loop-index-test.true, c.count-index-end.ensures.count)) (sym c.if-not-has.ensures)
     ∙ c.loop-index.invariant

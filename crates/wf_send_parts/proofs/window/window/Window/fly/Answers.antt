@@ -48,4 +48,5 @@ returns-clause-id c s bodies n stands number =
     ∙ ap (λ (k : ℕ). get_or q.ring.items k None) (c.from-i.ensures ∙ c.ahead.ensures.number)
     ∙ ap (λ (v : WindowValue). place_at v c.args.seq) c.self.view_is
     ∙ place_is _ s bodies stands n c.args.seq number) refl in
-    c.id-id.ensures ∙ ap (λ (f : FrameValue). f.id) (c.frame.ensures ∙ frame_held bodies (slot s n) _ held)
+    ap (λ (f : FrameValue). f.id)
+    (c.behind-parcel.view_is ∙ c.frame.ensures ∙ frame_held bodies (slot s n) _ held)
