@@ -53,6 +53,7 @@ view_of t = record {
   sleepers = t.sleepers;
   opened = t.opened;
   tally = counts_of t.tally;
+  group = t.group;
 }
 
 some_left : (n m : ℕ) → n ≡ suc m → (n == 0) ≡ false

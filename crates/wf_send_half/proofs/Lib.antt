@@ -17,6 +17,7 @@ pub mod Dones
 pub mod Driven
 mod Taking
 mod Giving
+mod GroupCalls
 mod Filling
 mod Flying
 mod Pulling

@@ -6,6 +6,7 @@ use Rattle.wf_frame.specs.Frames.{FrameValue, new_frame}
 use Rattle.wf_frame.specs.Settings.{IsInRange}
 use Rattle.wf_def_world.specs.World.{opening}
 use Rattle.wf_send_parts.specs.Tally.{Counts, no_counts}
+use Rattle.wf_send_parts.specs.Group.{GroupValue, no_group_frames}
 use Rattle.wf_queue_flows.specs.Flows.{FlowsValue, empty_flows}
 use Rattle.wf_sched.specs.ClassRotas.{SchedValue, new_scheduler as empty_sched}
 use Rattle.wf_send_parts.specs.Window.{WindowValue}
@@ -34,16 +35,18 @@ opening_sizes c range = record {
   modes = length-replicate (8 * c.stations) Plain;
   members = length-replicate {A = Option Member} c.stations None;
   sleepers = length-replicate c.stations awake;
+  group = refl;
 }
 
 module _ (c : Config) (flows : FlowsValue) (sched : SchedValue) (windows : List WindowValue)
     (modes : List Mode) (members : List (Option Member)) (sleepers : List Sleeper) (opened : List Open)
-    (tally : Counts)
+    (tally : Counts) (group : GroupValue)
     (range : IsInRange c)
     (a : flows ≡ empty_flows c) (b : sched ≡ empty_sched c.stations c.quantum)
     (d : windows ≡ replicate (8 * c.stations) new_window) (j : modes ≡ replicate (8 * c.stations) Plain)
     (e : members ≡ replicate c.stations None)
-    (f : sleepers ≡ replicate c.stations awake) (g : opened ≡ []) (i : tally ≡ no_counts) where
+    (f : sleepers ≡ replicate c.stations awake) (g : opened ≡ []) (i : tally ≡ no_counts)
+    (k : group ≡ no_group_frames c.buffered) where
   abbrev made : TransmitValue
   made = record {
     config = c;
@@ -58,6 +61,7 @@ module _ (c : Config) (flows : FlowsValue) (sched : SchedValue) (windows : List 
     sleepers = sleepers;
     opened = opened;
     tally = tally;
+    group = group;
   }
 
   made_is : made ≡ opening_half c
@@ -76,6 +80,7 @@ module _ (c : Config) (flows : FlowsValue) (sched : SchedValue) (windows : List 
         sleepers = sleepers;
         opened = opened;
         tally = tally;
+        group = group;
       }) j
       ∙ ap (λ (x : List (Option Member)). record (opening_half c) {
         members = x;
@@ -83,10 +88,17 @@ module _ (c : Config) (flows : FlowsValue) (sched : SchedValue) (windows : List 
         opened =
             opened;
         tally = tally;
+        group = group;
       }) e
-      ∙ ap (λ (x : List Sleeper). record (opening_half c) { sleepers = x; opened = opened; tally = tally }) f
-      ∙ ap (λ (x : List Open). record (opening_half c) { opened = x; tally = tally }) g
-      ∙ ap (λ (x : Counts). record (opening_half c) { tally = x }) i
+      ∙ ap (λ (x : List Sleeper). record (opening_half c) {
+        sleepers = x;
+        opened = opened;
+        tally = tally;
+        group = group;
+      }) f
+      ∙ ap (λ (x : List Open). record (opening_half c) { opened = x; tally = tally; group = group }) g
+      ∙ ap (λ (x : Counts). record (opening_half c) { tally = x; group = group }) i
+      ∙ ap (λ (x : GroupValue). record (opening_half c) { group = x }) k
 
   pub sizes : HasSizes made
   sizes = subst HasSizes (sym made_is) (opening_sizes c range)

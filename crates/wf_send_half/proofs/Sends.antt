@@ -188,6 +188,7 @@ send_only (brief.Held start) pairs e s t air part more is = absurd (cc is)
 send_only brief.Begun pairs e s t air part more is = absurd (cc is)
 send_only brief.Freed pairs e s t air part more is = absurd (cc is)
 send_only (brief.Ceased dropped) pairs e s t air part more is = absurd (cc is)
+send_only (brief.Group answer) pairs e s t air part more is = absurd (cc is)
 send_only (brief.Refused refusal) pairs e s t air part more is = absurd (cc is)
 
 -- ---- a whole pull

@@ -14,7 +14,8 @@ use Rattle.wf_send_parts.specs.Members.{member, received_in}
 use Rattle.wf_send_half_model.specs.Half.{TransmitValue, can_send_of}
 use Rattle.wf_send_half_model.specs.Standing.{StandsFor}
 
--- each setting is in its range, and each part has as many places as there are stations
+-- each setting is in its range, each part has as many places as there are stations, and as many group frames
+-- may be queued as the setting `buffered` says
 pub record HasSizes (v : TransmitValue) : Type 0 where
   pub in_range : IsInRange v.config
   pub flows : v.flows.stations ≡ v.config.stations
@@ -23,6 +24,7 @@ pub record HasSizes (v : TransmitValue) : Type 0 where
   pub modes : length v.modes ≡ 8 * v.config.stations
   pub members : length v.members ≡ v.config.stations
   pub sleepers : length v.sleepers ≡ v.config.stations
+  pub group : v.group.capacity ≡ v.config.buffered
 
 -- the half represents some world of a run
 pub record HasWorld (v : TransmitValue) : Type 0 where

@@ -1,4 +1,5 @@
 -- Lists the modules of specs/ of wf_send_half.
+pub mod Group
 pub mod Half
 pub mod Pulls
 pub mod Replies

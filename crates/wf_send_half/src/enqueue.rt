@@ -55,9 +55,10 @@ fn marked(mut parcel: Parcel, id: u64, stamp: u64) -> Parcel
     ensures marked { result ≡ record parcel { id = id; stamp = stamp; attempts = 0; fate = Held } }
 {
     let frame = parcel.frame_mut();
-    let (_source, _octets) = (frame.source(), frame.len());
-    frame.mark(id, stamp);
-    frame.settle(Fate::Held);
+    frame.id = id;
+    frame.stamp = stamp;
+    frame.attempts = 0;
+    frame.fate = Fate::Held;
     parcel
 }
 
@@ -67,7 +68,7 @@ fn count_accepted(tally: &mut Tally, dropped: Option<Lost>)
     ensures { counts_of tally.new ≡
         with_overlimit (option_map (λ lost. lost.id) dropped) (one_accepted (counts_of tally.old)) }
 {
-    tally.add();
+    tally.accepted += 1;
     if dropped.is_some() {
         tally.settle(Fate::Dropped(Cause::Overlimit));
     }

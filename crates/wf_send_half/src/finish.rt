@@ -296,7 +296,7 @@ impl Half {
         requires room { CanFinish self.old 1 }
         ensures { self.new ≡ after_finish self.old parcel }
     {
-        self.tally.settle(parcel.frame().fate());
+        self.tally.settle(parcel.frame().fate);
         self.flows.finish(parcel);
     }
 }

@@ -17,6 +17,7 @@ use wf_queue_flows::Flows;
 use wf_rotation::Side;
 use wf_sched::Sched;
 use wf_send_parts::exchanges::Opened;
+use wf_send_parts::group::GroupQueue;
 use wf_send_parts::stations::{Members, Modes, Sleepers, Tally};
 use wf_send_parts::window::Windows;
 
@@ -36,6 +37,7 @@ pub(crate) struct Half {
     pub(crate) sleepers: Sleepers,
     pub(crate) opened: Opened,
     pub(crate) tally: Tally,
+    pub(crate) group: GroupQueue,
 }
 
 // Written by hand, so that the proof of a drop is one call rather than the drop of each part.
@@ -54,6 +56,7 @@ impl Drop for Half {
             sleepers: _sleepers,
             opened: _opened,
             tally: _,
+            group: _group,
         } = self;
     }
 }
@@ -78,6 +81,7 @@ impl Model for Half {
       sleepers = t.sleepers;
       opened = t.opened;
       tally = counts_of t.tally;
+      group = t.group;
     } };
 
     ghost invariant = { λ t. HasSizes (record {
@@ -93,6 +97,7 @@ impl Model for Half {
       sleepers = t.sleepers;
       opened = t.opened;
       tally = counts_of t.tally;
+      group = t.group;
     }) };
 }
 
@@ -110,6 +115,7 @@ impl Half {
         let windows = Windows::new(alloc, config.stations)?;
         let sched = Sched::new(alloc, config.stations, config.quantum)?;
         let flows = Flows::new(alloc, config)?;
+        let group = GroupQueue::new(alloc, config.buffered)?;
         Ok(Half {
             config,
             clock: 0,
@@ -123,6 +129,7 @@ impl Half {
             sleepers,
             opened,
             tally: Tally::new(),
+            group,
         })
     }
 

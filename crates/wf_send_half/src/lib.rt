@@ -1,6 +1,6 @@
 //! The transmit half of an access point, `Transmit`: the flow queues, the scheduler, the windows, the live
-//! stations, the sleepers and the open exchanges, and which stations are ready. It has a method for each call
-//! of the machine (`wf_def_world`) except those of receivers, and methods that read it.
+//! stations, the sleepers, the open exchanges and the group frames, and which stations are ready. It has a
+//! method for each call of the machine (`wf_def_world`) except those of receivers, and methods that read it.
 //!
 //! A refused call changes nothing, except, without the setting `pending`, a pull that is idle. Only `new`
 //! allocates memory. `Transmit` stores the flags and the parts, which are a `Half`: the methods of `Half`
@@ -17,6 +17,7 @@ mod finish;
 mod flags;
 mod flush;
 mod frames;
+mod group;
 mod half;
 mod leave;
 mod marks;

@@ -54,4 +54,14 @@ impl Transmit {
     {
         self.half.flows.codel_of(q)
     }
+
+    /// Returns the number of frames that CoDel dropped from a queue since the start. It stays at
+    /// 4,294,967,295 once it is there.
+    pub fn codel_drops(&self, q: u32) -> u32
+        requires { q < queues self.now.flows }
+        ensures { (w : World) (bodies : ℕ → FrameValue) → StandsFor self.now w bodies →
+            result ≡ (queue w q).codel.dropped }
+    {
+        self.codel(q).dropped()
+    }
 }

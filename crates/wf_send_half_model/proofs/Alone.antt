@@ -288,6 +288,7 @@ module _ (v : TransmitValue) (w : World) (bodies : ℕ → FrameValue) (s t : �
           clock = p.clock ∙ ap (λ (r : Roster). r.clock) same;
           exchanges = p.exchanges ∙ ap (λ (r : Roster). r.exchanges) same;
           opened = p.opened ∙ ap (λ (r : Roster). r.opened) same;
+          group = p.group ∙ ap (λ (r : Roster). r.group) same;
           stations = subst (λ (r : Roster). StationsStand v.members v.sleepers r.config.stations r.stations)
               same p.stations;
           windows = subst (WindowsStand (with_window v.windows s t x) others) (sym only.agreements_are)

@@ -38,6 +38,7 @@ tick_parts v w bodies by h =
       clock = ap (λ (n : ℕ). n + by) p.clock;
       exchanges = p.exchanges;
       opened = p.opened;
+      group = p.group;
       stations = p.stations;
       windows = p.windows;
       modes = record { sized = p.modes.sized; each = p.modes.each };
@@ -206,6 +207,7 @@ reap_parts v w bodies f rest e h =
       clock = p.clock ∙ ap (λ (r : Roster). r.clock) same;
       exchanges = p.exchanges ∙ ap (λ (r : Roster). r.exchanges) same;
       opened = p.opened ∙ ap (λ (r : Roster). r.opened) same;
+      group = p.group ∙ ap (λ (r : Roster). r.group) same;
       stations = subst (λ (r : Roster). StationsStand v.members v.sleepers r.config.stations r.stations) same
           p.stations;
       windows = subst (WindowsStand v.windows bodies)

@@ -3,7 +3,7 @@
 use Rattle.std.proofs.Common.{◌≡◌, refl, ap, sym, ◌∙◌, subst, arith, ℕ, ◌+◌, ◌==◌, Bool, true, false, not, ◌&&◌, if◌then◌else◌, List, [], ◌∷◌, ◌++◌, filter, map, Option, Some, None, inl, inr}
 use Rattle.std.proofs.lemmas.Bool.{cases_Bool, ne_eqb}
 use Rattle.wf_frame.specs.declared.classes.Class.{Class}
-use Rattle.wf_frame.specs.declared.notes.Ask.TheVariants.{Join, Leave, Rate, Tick, Pull, Arrive, Answer, Done, Sleep, Wake, Poll, Rx, Reap, Ampdu, Stop, Start, Unsent, GiveUp, Flush, Offload, Weight, Hold, Begin, Free, Cease}
+use Rattle.wf_frame.specs.declared.notes.Ask.TheVariants.{Join, Leave, Rate, Tick, Pull, Arrive, Answer, Done, Sleep, Wake, Poll, Rx, Reap, Ampdu, Stop, Start, Unsent, GiveUp, Flush, Offload, Weight, Hold, Begin, Free, Cease, Group}
 use Rattle.wf_frame.specs.declared.notes.Ask.TheVariants as call
 use Rattle.wf_frame.specs.declared.notes.Note.{Note}
 use Rattle.wf_frame.specs.declared.notes.Limits.{Limits}
@@ -113,6 +113,7 @@ own_done (Asked (Weight s weight)) w k i = own_is _ _ (books_weighed w s weight)
 own_done (Asked (Leave s)) w k i = own_is _ _ (books_gone w s) i
 own_done (Asked (Rate s rate)) w k i = own_is _ _ (books_with_rate w s rate) i
 own_done (Asked (Tick by)) w k i = i
+own_done (Asked (Group ask)) w k i = i
 own_done (Asked (Pull c l)) w k i = own_pulled w c l i
 own_done (Asked (Arrive e j)) w k i = own_open w e (exchange w e) _ refl i
     (λ x f. own_is _ _ (books_arrived w e j x k f) i)

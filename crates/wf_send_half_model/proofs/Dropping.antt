@@ -11,7 +11,7 @@ use Rattle.wf_frame.specs.declared.classes.Fate.{Fate}
 use Rattle.wf_frame.specs.declared.classes.Fate.TheVariants.{Held, Acked, Dropped}
 use Rattle.wf_frame.specs.declared.notes.Note.{Note}
 use Rattle.wf_frame.specs.Frames.{FrameValue}
-use Rattle.wf_def_codel.specs.Codel.{Codel as CodelState}
+use Rattle.wf_def_codel.specs.Codel.{Codel as CodelState, renewed}
 use Rattle.wf_def_lists.specs.Lists.{on}
 use Rattle.wf_def_lists.specs.Table.{has, upto}
 use Rattle.wf_law_rules.proofs.Lemmas.Counts.{on-append, on-cons_same}
@@ -21,7 +21,7 @@ use Rattle.wf_def_world.specs.Step.{waiting_ids, after_tid_left}
 use Rattle.wf_def_world.specs.Text.{same_fate, tally}
 use Rattle.wf_law_runs.proofs.Deficits.Books.{upd_other}
 use Rattle.wf_send_parts.specs.Tally.{Counts, settled_as, many_settled_as}
-use Rattle.wf_queue_flows.specs.Backlog.{BacklogValue, frames_at, frame_with_fate, after_emptying, renewed, held_in_backlog}
+use Rattle.wf_queue_flows.specs.Backlog.{BacklogValue, frames_at, frame_with_fate, after_emptying, held_in_backlog}
 use Rattle.wf_frame.specs.Classes.{tid_number}
 use Rattle.wf_queue_flows.specs.Flows.{FlowsValue, SettingsValue, queues as queue_count, is_listed, queues_of, all_emptied, frames_of_tid, tid_rotation, after_purge}
 use Rattle.wf_queue_flows_refines.specs.Frames.{HaveSettled, QueuedAreHeld, IsBodySettled, counts_as, notes}
@@ -282,6 +282,7 @@ module _ (before : TransmitValue) (w : World) (bodies : ℕ → FrameValue) (s t
           clock = p.clock ∙ ap (λ (r : Roster). r.clock) same;
           exchanges = p.exchanges ∙ ap (λ (r : Roster). r.exchanges) same;
           opened = p.opened ∙ ap (λ (r : Roster). r.opened) same;
+          group = p.group ∙ ap (λ (r : Roster). r.group) same;
           stations = subst (λ (r : Roster). StationsStand before.members before.sleepers r.config.stations
               r.stations) same p.stations;
           windows = subst (WindowsStand before.windows bodies)

@@ -138,6 +138,7 @@ enqueue_parts v w bodies f places live low_s low_t next stamp source fate h =
       clock = p.clock ∙ ap (λ (r : Roster). r.clock) same;
       exchanges = p.exchanges ∙ ap (λ (r : Roster). r.exchanges) same;
       opened = p.opened ∙ ap (λ (r : Roster). r.opened) same;
+      group = p.group ∙ ap (λ (r : Roster). r.group) same;
       stations = subst (λ (r : Roster). StationsStand v.members v.sleepers r.config.stations r.stations) same
           p.stations;
       windows = subst (WindowsStand v.windows (with_body bodies f))

@@ -172,6 +172,7 @@ module _ (before v : TransmitValue) (w : World) (bodies : ℕ → FrameValue) (s
         clock = p.clock ∙ ap (λ (r : Roster). r.clock) same;
         exchanges = p.exchanges ∙ ap (λ (r : Roster). r.exchanges) same;
         opened = p.opened ∙ ap (λ (r : Roster). r.opened) same;
+        group = p.group ∙ ap (λ (r : Roster). r.group) same;
         stations = subst (λ (r : Roster). StationsStand v.members v.sleepers r.config.stations r.stations)
             same p.stations;
         windows = subst (WindowsStand v.windows bodies) (sym (agreements_rest now gone same_rest)) p.windows;

@@ -183,6 +183,7 @@ module _ (before v : TransmitValue) (w : World) (bodies : ℕ → FrameValue) (s
         clock = p.clock ∙ ap (λ (r : Roster). r.clock) e;
         exchanges = p.exchanges ∙ ap (λ (r : Roster). r.exchanges) e;
         opened = p.opened ∙ ap (λ (r : Roster). r.opened) e;
+        group = p.group ∙ ap (λ (r : Roster). r.group) e;
         stations = subst (λ (r : Roster). StationsStand
             (set before.members s None) before.sleepers r.config.stations r.stations) e
             (subst (λ (ys : List Sleeper). StationsStand (set before.members s None) ys

@@ -146,6 +146,7 @@ asked_accepts (reply.Held start) ask = refl
 asked_accepts reply.Begun ask = refl
 asked_accepts reply.Freed ask = refl
 asked_accepts (reply.Ceased dropped ids) ask = refl
+asked_accepts (reply.Group answer) ask = refl
 asked_accepts (reply.Refused reason) ask = refl
 
 accepts_is : (w : World) (note : Note) → (if is_none (refusal w note) then brought note else 0)
@@ -262,6 +263,7 @@ module _ (gone : List ℕ) (w : World) (keeps : KeepsFinished gone w) (id : ℕ)
   by_reply reply.Begun note m more next = stays m (omega (arith, more))
   by_reply reply.Freed note m more next = stays m (omega (arith, more))
   by_reply (reply.Ceased dropped ids) note m more next = stays m (omega (arith, more))
+  by_reply (reply.Group answer) note m more next = stays m (omega (arith, more))
   by_reply (reply.Refused reason) note m more next = stays m (omega (arith, more))
 
 module _ (c : Config) (h : List Entry) (note : Note) where

@@ -166,6 +166,7 @@ admitted_parts v w bodies after modes mode s window start exponent weight offloa
       clock = p.clock ∙ ap (λ (z : Roster). z.clock) r;
       exchanges = p.exchanges ∙ ap (λ (z : Roster). z.exchanges) r;
       opened = p.opened ∙ ap (λ (z : Roster). z.opened) r;
+      group = p.group ∙ ap (λ (z : Roster). z.group) r;
       stations = subst (λ (z : Roster). StationsStand (set v.members s (Some (new_member exponent offloaded)))
           (with_sleeper v.sleepers s awake) z.config.stations z.stations) r
           (station_replaced v.members v.sleepers w.config.stations (roster w).stations s

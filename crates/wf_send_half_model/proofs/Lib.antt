@@ -22,6 +22,7 @@ pub mod Flushing
 pub mod Frames
 pub mod Gives
 pub mod Gone
+pub mod Groups
 pub mod Inside
 mod Joins
 mod Known

@@ -73,6 +73,7 @@ module _ (v : TransmitValue) (w : World) (bodies : ℕ → FrameValue) (e : ℕ)
         clock = p.clock ∙ sym (ap (λ (r : Roster). r.clock) now);
         exchanges = p.exchanges ∙ sym (ap (λ (r : Roster). r.exchanges) now);
         opened = ap (with_exchange_changed e f) p.opened ∙ sym (ap (λ (r : Roster). r.opened) now);
+        group = p.group ∙ sym (ap (λ (r : Roster). r.group) now);
         stations = subst (λ (r : Roster). StationsStand v.members v.sleepers r.config.stations r.stations)
             (sym now) p.stations;
         windows = subst (WindowsStand v.windows bodies) (sym (agreements_exchange w z)) p.windows;

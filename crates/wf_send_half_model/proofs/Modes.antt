@@ -81,6 +81,7 @@ tid_parts v w bodies s t f x mode live low queues room stands is h =
       clock = p.clock ∙ ap (λ (r : Roster). r.clock) same;
       exchanges = p.exchanges ∙ ap (λ (r : Roster). r.exchanges) same;
       opened = p.opened ∙ ap (λ (r : Roster). r.opened) same;
+      group = p.group ∙ ap (λ (r : Roster). r.group) same;
       stations = subst (λ (r : Roster). StationsStand v.members v.sleepers r.config.stations r.stations) same
           p.stations;
       windows = subst (WindowsStand (with_window v.windows s t x) bodies)

@@ -61,6 +61,7 @@ session_parts v w bodies s t f x live low room stands h =
       clock = p.clock ∙ ap (λ (r : Roster). r.clock) same;
       exchanges = p.exchanges ∙ ap (λ (r : Roster). r.exchanges) same;
       opened = p.opened ∙ ap (λ (r : Roster). r.opened) same;
+      group = p.group ∙ ap (λ (r : Roster). r.group) same;
       stations = subst (λ (r : Roster). StationsStand v.members v.sleepers r.config.stations r.stations) same
           p.stations;
       windows = subst (WindowsStand (with_window v.windows s t x) bodies)
@@ -102,6 +103,7 @@ finish_parts v w bodies f low held other nowhere body h =
       clock = p.clock ∙ ap (λ (r : Roster). r.clock) same;
       exchanges = p.exchanges ∙ ap (λ (r : Roster). r.exchanges) same;
       opened = p.opened ∙ ap (λ (r : Roster). r.opened) same;
+      group = p.group ∙ ap (λ (r : Roster). r.group) same;
       stations = subst (λ (r : Roster). StationsStand v.members v.sleepers r.config.stations r.stations) same
           p.stations;
       windows = subst (WindowsStand v.windows bodies)

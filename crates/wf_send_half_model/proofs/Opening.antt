@@ -78,6 +78,7 @@ new_stands c bodies range = record {
       };
       inside = refl;
       tally = refl;
+      group = refl;
       frames = record {
         queued = λ q. All-same (IsBody bodies) (frames_at (empty_flows c).backlog q) [] (no_frames c q)
             (All-nil (IsBody bodies));

@@ -10,7 +10,7 @@ use Rattle.wf_frame.specs.declared.notes.Note.{Note}
 use Rattle.wf_frame.specs.declared.notes.Limits.{Limits}
 use Rattle.wf_law_runs.proofs.Common.Picked.{picked_world}
 use Rattle.wf_frame.specs.declared.notes.Note.TheVariants.{Enqueue, Asked}
-use Rattle.wf_frame.specs.declared.notes.Ask.TheVariants.{Join, Leave, Rate, Tick, Pull, Arrive, Answer, Done, Sleep, Wake, Poll, Rx, Reap, Ampdu, Stop, Start, Unsent, GiveUp, Flush, Offload, Weight, Hold, Begin, Free, Cease}
+use Rattle.wf_frame.specs.declared.notes.Ask.TheVariants.{Join, Leave, Rate, Tick, Pull, Arrive, Answer, Done, Sleep, Wake, Poll, Rx, Reap, Ampdu, Stop, Start, Unsent, GiveUp, Flush, Offload, Weight, Hold, Begin, Free, Cease, Group}
 use Rattle.wf_frame.specs.declared.notes.Ask.TheVariants as call
 use Rattle.wf_frame.specs.declared.notes.Refusal.{Refusal}
 use Rattle.wf_frame.specs.declared.notes.Refusal.TheVariants.{Idle}
@@ -383,6 +383,7 @@ long_done (Asked (Leave i)) w s t q r keeps other spared k =
     (apart_other w i s t q keeps (λ h. other (ap (λ (z : ℕ). Some z) (sym h))) (not-false _ r.1.0) k)
 long_done (Asked (Rate i rate)) w s t q r keeps other spared k = long_on_station w i q _
 long_done (Asked (Tick by)) w s t q r keeps other spared k = omega arith
+long_done (Asked (Group ask)) w s t q r keeps other spared k = omega arith
 long_done (Asked (Pull c l)) w s t q r keeps other spared k =
     long_pulled (picked_station w c).winner w c l s t q keeps refl other k
 long_done (Asked (Arrive e j)) w s t q r keeps other spared k =

@@ -6,6 +6,7 @@ use Rattle.wf_frame.specs.Frames.{FrameValue}
 use Rattle.wf_def_lists.specs.Table.{at}
 use Rattle.wf_def_world.specs.World.{World, Station, no_station}
 use Rattle.wf_send_parts.specs.Tally.{Counts}
+use Rattle.wf_send_parts.specs.Group.{group_state}
 use Rattle.wf_send_parts.specs.Window.{WindowValue}
 use Rattle.wf_send_parts.specs.Windows.{WindowsHaveRoom}
 use Rattle.wf_send_parts.specs.Many.{AllStand}
@@ -154,6 +155,7 @@ pub record Pieces (v : TransmitValue) (w : World) (bodies : ℕ → FrameValue) 
   pub flows : FlowsStandFor v.flows w
   pub turns : TurnsStandFor v.sched w
   pub ledger : LedgerStands v.inside v.tally bodies (ledger w)
+  pub group : group_state v.group ≡ (roster w).group
   pub frames : HasFrames v.flows.backlog bodies
 
 pub to_pieces : (v : TransmitValue) (w : World) (bodies : ℕ → FrameValue) → Parts v w bodies →
@@ -175,6 +177,7 @@ to_pieces v w bodies h = record {
   flows = h.others.flows;
   turns = h.others.turns;
   ledger = record { count = h.others.inside; fates = h.others.tally; notes = h.others.notes };
+  group = h.others.group;
   frames = h.others.frames;
 }
 
@@ -199,6 +202,7 @@ of_pieces v w bodies h = record {
     modes = record { sized = h.modes.sized; each = h.modes.each };
     inside = h.ledger.count;
     tally = h.ledger.fates;
+    group = h.group;
     frames = h.frames;
     notes = h.ledger.notes;
   };
@@ -214,6 +218,7 @@ same_views v w u bodies turns same stands h =
       clock = p.clock ∙ ap (λ (r : Roster). r.clock) (sym same.roster);
       exchanges = p.exchanges ∙ ap (λ (r : Roster). r.exchanges) (sym same.roster);
       opened = p.opened ∙ ap (λ (r : Roster). r.opened) (sym same.roster);
+      group = p.group ∙ ap (λ (r : Roster). r.group) (sym same.roster);
       stations = subst (λ (r : Roster). StationsStand v.members v.sleepers r.config.stations r.stations)
           (sym same.roster) p.stations;
       windows = subst (WindowsStand v.windows bodies) (sym same.agreements) p.windows;

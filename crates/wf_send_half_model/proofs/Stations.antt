@@ -230,6 +230,7 @@ station_parts v w bodies s f g members sleepers turns tids seen stands changes h
       clock = p.clock ∙ ap (λ (r : Roster). r.clock) e;
       exchanges = p.exchanges ∙ ap (λ (r : Roster). r.exchanges) e;
       opened = p.opened ∙ ap (λ (r : Roster). r.opened) e;
+      group = p.group ∙ ap (λ (r : Roster). r.group) e;
       stations = subst (λ (r : Roster). StationsStand members sleepers r.config.stations r.stations) e
           (changes p.stations);
       windows = subst (WindowsStand v.windows bodies) (sym (agreements_station w s f tids)) p.windows;

@@ -9,7 +9,7 @@ use Rattle.wf_frame.specs.declared.settings.Config.{Config}
 use Rattle.wf_frame.specs.declared.notes.AskedRate.{AskedRate}
 use Rattle.wf_frame.specs.declared.notes.Note.{Note}
 use Rattle.wf_frame.specs.declared.notes.Note.TheVariants.{Enqueue, Asked}
-use Rattle.wf_frame.specs.declared.notes.Ask.TheVariants.{Join, Leave, Rate, Tick, Pull, Arrive, Answer, Done, Sleep, Wake, Poll, Rx, Reap, Ampdu, Stop, Start, Unsent, GiveUp, Flush, Offload, Weight, Hold, Begin, Free, Cease}
+use Rattle.wf_frame.specs.declared.notes.Ask.TheVariants.{Join, Leave, Rate, Tick, Pull, Arrive, Answer, Done, Sleep, Wake, Poll, Rx, Reap, Ampdu, Stop, Start, Unsent, GiveUp, Flush, Offload, Weight, Hold, Begin, Free, Cease, Group}
 use Rattle.wf_frame.specs.declared.notes.Ask.TheVariants as call
 use Rattle.wf_frame.specs.Classes.{all_classes, lower_tid, upper_tid}
 use Rattle.wf_def_lists.specs.Table.{at}
@@ -276,6 +276,7 @@ steady_done (Asked (Answer e)) w r h c s = steady_ready w
     (λ x k. steady_answered w e x (orderly_reached w r).kept k)) c s
 steady_done (Asked (Rx i d air)) w r h c s = steady_ready w _ (steady_received w i d air) c s
 steady_done (Asked Reap) w r h c s = ready_reap w.finished w c s
+steady_done (Asked (Group ask)) w r h c s = refl
 steady_done (Enqueue i t flow len) w r h c s = absurd (cc h)
 steady_done (Asked (Join i window start exponent weight)) w r h c s = absurd (cc h)
 steady_done (Asked (Offload i exponent weight)) w r h c s = absurd (cc h)

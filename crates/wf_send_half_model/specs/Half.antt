@@ -6,6 +6,7 @@ use Rattle.wf_frame.specs.declared.settings.Config.{Config}
 use Rattle.wf_frame.specs.declared.classes.Class.{Class}
 use Rattle.wf_frame.specs.Classes.{lower_tid, upper_tid, tid_number}
 use Rattle.wf_frame.specs.Frames.{FrameValue}
+use Rattle.wf_def_lists.specs.Table.{upto}
 use Rattle.wf_def_world.specs.World.{has_agreement, holds_back}
 use Rattle.wf_def_world.specs.CanSend.{has_credit}
 use Rattle.wf_def_world.specs.Exchanges.{longest_computed}
@@ -25,6 +26,7 @@ use Rattle.wf_send_parts.specs.Modes.{as_mode, mode_of}
 use Rattle.wf_send_parts.specs.declared.stations.sleepers.Sleeper.{Sleeper}
 use Rattle.wf_send_parts.specs.Sleepers.{awake, sleeper}
 use Rattle.wf_send_parts.specs.Tally.{Counts, no_counts}
+use Rattle.wf_send_parts.specs.Group.{GroupValue, no_group_frames}
 
 -- what the transmit half keeps
 pub record TransmitValue : Type 0 where
@@ -40,6 +42,7 @@ pub record TransmitValue : Type 0 where
   pub sleepers : List Sleeper  -- by station
   pub opened : List Open  -- in the order of their numbers
   pub tally : Counts
+  pub group : GroupValue  -- the group frames and the beacons
 
 -- a new half: no station is live, it holds no frames, and no window has a number
 abbrev pub opening_half : Config → TransmitValue
@@ -56,6 +59,7 @@ opening_half c = record {
   sleepers = replicate c.stations awake;
   opened = [];
   tally = no_counts;
+  group = no_group_frames c.buffered;
 }
 
 -- ---- queries
@@ -137,6 +141,14 @@ is_debtor_of v c s = (v.config.pending == 1)
 -- whether a station belongs on a list of a class: it is ready there, or a debtor
 abbrev pub is_to_list_of : TransmitValue → Class → ℕ → Bool
 is_to_list_of v c s = is_ready_of v c s || is_debtor_of v c s
+
+-- whether a station is live and sleeps
+abbrev pub is_asleep_of : TransmitValue → ℕ → Bool
+is_asleep_of v s = is_some (member v.members s) && (sleeper v.sleepers s).asleep
+
+-- whether some live station sleeps
+abbrev pub is_any_asleep_of : TransmitValue → Bool
+is_any_asleep_of v = list_any (is_asleep_of v) (upto v.config.stations)
 
 -- whether the airtime in flight in all classes has reached the setting `aql_total`, which is no limit if it
 -- is 0

@@ -30,6 +30,7 @@ use Rattle.wf_send_parts.specs.Sleepers.{sleeper}
 use Rattle.wf_send_parts.specs.declared.stations.modes.Mode.{Mode}
 use Rattle.wf_send_parts.specs.Modes.{as_mode, mode_of}
 use Rattle.wf_send_parts.specs.Tally.{Counts}
+use Rattle.wf_send_parts.specs.Group.{group_state}
 use Rattle.wf_send_half_model.specs.Half.{TransmitValue}
 
 -- ---- exchanges
@@ -138,6 +139,7 @@ pub record HasOthers (v : TransmitValue) (w : World) (bodies : ℕ → FrameValu
   pub modes : HasModes v.modes w
   pub inside : v.inside ≡ inside_of w
   pub tally : v.tally ≡ counts_in w
+  pub group : group_state v.group ≡ w.group
   pub frames : HasFrames v.flows.backlog bodies
   pub notes : AreAccepted w bodies
 

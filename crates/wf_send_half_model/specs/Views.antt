@@ -8,6 +8,7 @@ use Rattle.wf_frame.specs.declared.notes.Note.{Note}
 use Rattle.wf_def_air.specs.Airtime.{Rate}
 use Rattle.wf_def_agreement.specs.Session.{Session}
 use Rattle.wf_def_lists.specs.Table.{at}
+use Rattle.wf_def_world.specs.Group.{GroupState}
 use Rattle.wf_def_world.specs.World.{World, Mode, Station, Share, is_live, tid_of, session, inside, accepted_count, frame}
 use Rattle.wf_send_parts.specs.Tally.{Counts}
 use Rattle.wf_send_parts.specs.declared.exchanges.opened.Open.{Open}
@@ -57,13 +58,14 @@ view_of x = record {
   received = λ c. (share_in x c).received;
 }
 
--- the clock, the live stations, and the open exchanges without their receivers' state
+-- the clock, the live stations, the open exchanges without their receivers' state, and the group frames
 pub record Roster : Type 0 where
   pub config : Config
   pub clock : ℕ
   pub exchanges : ℕ
   pub opened : List Open
   pub stations : ℕ → Option StationView
+  pub group : GroupState
 
 abbrev pub roster : World → Roster
 roster w = record {
@@ -72,6 +74,7 @@ roster w = record {
   exchanges = w.exchanges;
   opened = map open_of w.opened;
   stations = λ s. option_map view_of (at None w.stations s);
+  group = w.group;
 }
 
 -- the frames that were accepted, by id

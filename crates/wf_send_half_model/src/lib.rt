@@ -22,7 +22,8 @@ ghost use Rattle.wf_frame.specs.declared.classes.Fate.{Fate};
 ghost use Rattle.wf_frame.specs.declared.classes.Fate.TheVariants.{Held, Dropped};
 ghost use Rattle.wf_frame.specs.declared.classes.Cause.{Cause};
 ghost use Rattle.wf_frame.specs.declared.classes.Cause.TheVariants.{Flushed, Ended};
-ghost use Rattle.wf_frame.specs.declared.notes.Ask.TheVariants.{Done, Join, Offload, Weight, Leave, Pull, Rate, Tick, Arrive, Answer, Sleep, Wake, Poll, Rx, Reap, Ampdu, Stop, Start, Unsent, GiveUp, Flush, Hold, Begin, Free, Cease};
+ghost use Rattle.wf_frame.specs.declared.notes.Ask.TheVariants.{Done, Join, Offload, Weight, Leave, Pull, Rate, Tick, Arrive, Answer, Sleep, Wake, Poll, Rx, Reap, Ampdu, Stop, Start, Unsent, GiveUp, Flush, Hold, Begin, Free, Cease, Group};
+ghost use Rattle.wf_frame.specs.declared.notes.GroupAsk.{GroupAsk};
 ghost use Rattle.wf_frame.specs.declared.notes.Ask.TheVariants as call;
 ghost use Rattle.wf_frame.specs.declared.notes.AskedRate.{AskedRate};
 ghost use Rattle.wf_frame.specs.declared.notes.Limits.{Limits};
@@ -47,7 +48,8 @@ ghost use Rattle.wf_def_lists.specs.Table.{at, has, upto};
 ghost use Rattle.wf_def_rotation.specs.Rotation.{Rotation, has_key};
 ghost use Rattle.wf_def_agreement.specs.Session.{Session, State, End, after_end, after_flush as session_flushed, slot, start_of, next_number, request_due, with_state, is_acknowledged, is_waiting, is_failed, with_number_given};
 ghost use Rattle.wf_def_world.specs.Rates.{rate_asked};
-ghost use Rattle.wf_def_world.specs.World.{World, Bounds, Station, Tid, Share, Queue, Exchange, Mpdu, frame, accepted_count, is_held, is_offloaded, is_agreed, is_plain, is_held_back, codel_params, with_frame_finished, with_frames_finished, Frames, Request, opening, without_exchange, is_live, session, share, rotation, exchange, owed_by_all, pending_air, on_station, on_tid, on_session, on_receiver, on_share, on_queue, with_queues, with_rotation, is_wide};
+ghost use Rattle.wf_def_world.specs.Group.{group_answer};
+ghost use Rattle.wf_def_world.specs.World.{World, is_any_asleep, Bounds, Station, Tid, Share, Queue, Exchange, Mpdu, frame, accepted_count, is_held, is_offloaded, is_agreed, is_plain, is_held_back, codel_params, with_frame_finished, with_frames_finished, Frames, Request, opening, without_exchange, is_live, session, share, rotation, exchange, owed_by_all, pending_air, on_station, on_tid, on_session, on_receiver, on_share, on_queue, with_queues, with_rotation, is_wide};
 ghost use Rattle.wf_def_world.specs.FlowQueues.{frames_queued as world_queued, after_limit, dropped_for_limit as dropped_for_limit_in};
 ghost use Rattle.wf_def_world.specs.CanSend.{request_open, has_waiting, can_give, can_send, can_send_in, is_ready, is_debtor, is_to_list, with_listings_of};
 ghost use Rattle.wf_def_world.specs.Exchanges.{Aggregate, Prepared, picked_station, sending_tid, after_tid_turn, aggregate_of, prepared_data, mpdus_of, no_mpdu, numbers_unsent, numbers_given_up, end_of, is_far, charge_of, after_charge, with_settled, with_all_settled, count_in, part_of, caught_up_if_plain, lens_of, mpdu_of, aggregate_charge};
@@ -69,6 +71,7 @@ ghost use Rattle.wf_send_parts.specs.Answers.{settling_answer};
 ghost use Rattle.wf_send_parts.specs.Window.{WindowValue, WindowStandsFor as WindowStandsFor, some_fly, is_flying, IsNumber, HasOwnFrame, state_at, waits, on_air, waiting_from};
 ghost use Rattle.wf_send_parts.specs.Expelling.{frame_left, frames_dropped};
 ghost use Rattle.wf_send_parts.specs.Flushing.{HasFlushed};
+ghost use Rattle.wf_send_parts.specs.Group.{group_state, group_refusal, group_value_after};
 ghost use Rattle.wf_send_parts.specs.Sent.{with_one_sent, with_one_unsent};
 ghost use Rattle.wf_air.specs.Sizes.{AggregateSizeValue, SizeStandsFor as SizeStandsFor, empty_size};
 ghost use Rattle.wf_sched_refines.specs.Calls.{HasPickedInClass};
@@ -81,7 +84,7 @@ ghost use Rattle.wf_send_parts.specs.Sleepers.{sleeper, with_sleeper, woken};
 ghost use Rattle.wf_send_parts.specs.declared.stations.members.Member.{Member};
 ghost use Rattle.wf_send_parts.specs.declared.stations.modes.Mode.{Mode};
 ghost use Rattle.wf_send_parts.specs.declared.stations.modes.Mode.TheVariants.{OnHold, Agreed};
-ghost use Rattle.wf_send_half_model.specs.Half.{TransmitValue, opening_half, some_wait, is_agreed_of, is_plain_of, is_held_back_of, can_give_of, can_send_of, has_live_credit_of, is_ready_of, pending_air_of, is_to_list_of, is_ahead_of};
+ghost use Rattle.wf_send_half_model.specs.Half.{TransmitValue, opening_half, some_wait, is_agreed_of, is_plain_of, is_held_back_of, can_give_of, can_send_of, has_live_credit_of, is_ready_of, pending_air_of, is_to_list_of, is_any_asleep_of, is_ahead_of};
 ghost use Rattle.wf_send_half_model.specs.Standing.{open_of, counts_in, HasWindows, Parts, IsReached, StandsFor, Meets, sending_of, numbers_on_air};
 ghost use Rattle.wf_send_half_model.specs.Changes.{after_listing, after_listing_in, AreReset, AreSet, after_mode, after_change, session_resized, after_enqueue, after_admission, after_weight};
 ghost use Rattle.wf_send_half_model.specs.Counting.{with_overlimit};
@@ -150,8 +153,9 @@ pub fn what_a_change_leaves()
 {}
 
 /// A query of a half returns the same as that query of the world: who is live, who can send and is ready,
-/// which TIDs have an agreement, which frames are queued or wait, which exchanges are open, and which of
-/// their airtime counts against a station's deficit. The scheduler keeps the deficit less this airtime.
+/// whether one sleeps, which TIDs have an agreement, which frames are queued or wait, which exchanges are
+/// open, and which of their airtime counts against a station's deficit. The scheduler keeps the deficit less
+/// this airtime.
 pub fn the_readers_agree()
     ensures live { (v : TransmitValue) (w : World) (bodies : ℕ → FrameValue) (s : ℕ) → Parts v w bodies →
         is_some (member v.members s) ≡ is_live w s }
@@ -226,6 +230,8 @@ pub fn the_readers_agree()
         is_live w s ≡ true →
         unwrap_or (find (λ c. can_send_of v s (lower_tid c) || can_send_of v s (upper_tid c))
         (Vo ∷ Vi ∷ Be ∷ [])) Bk ≡ class_to_send w s }
+    ensures any_asleep { (v : TransmitValue) (w : World) (bodies : ℕ → FrameValue) → Parts v w bodies →
+        is_any_asleep_of v ≡ is_any_asleep w }
 {}
 
 /// A refused call changes nothing, unless it is a pull that finds no ready station.
@@ -353,6 +359,25 @@ pub fn a_call_that_moves_no_frame()
           sleepers = with_sleeper v.sleepers s
               (record (sleeper v.sleepers s) { stopped = false });
         }) s) Started }
+{}
+
+/// The calls about group frames. The half refuses them as the machine, if its queue has the room that the
+/// setting `buffered` says. A refused call changes nothing. If the machine does not refuse the call, the half
+/// with these group frames represents the world after the step, and the reply is the step's. The machine does
+/// not know the tag and the destination of a frame that is accepted.
+pub fn a_group_call()
+    ensures fault { (v : TransmitValue) (w : World) (bodies : ℕ → FrameValue) → Parts v w bodies →
+        v.group.capacity ≡ v.config.buffered → (ask : GroupAsk) →
+        group_refusal (is_any_asleep_of v) ask v.group ≡ refusal w (Asked (Group ask)) }
+    ensures refused { (v : TransmitValue) (w : World) (bodies : ℕ → FrameValue) → StandsFor v w bodies →
+        (ask : GroupAsk) (r : Refusal) → refusal w (Asked (Group ask)) ≡ Some r →
+        Meets w bodies (Asked (Group ask)) v (Refused r) }
+    ensures meets { (v : TransmitValue) (w : World) (bodies : ℕ → FrameValue) → StandsFor v w bodies →
+        (ask : GroupAsk) (tag : ℕ) (to : List ℕ) → refusal w (Asked (Group ask)) ≡ None →
+        Meets w bodies (Asked (Group ask)) (record v {
+          group = group_value_after v.config (is_any_asleep_of v) ask tag to v.group;
+        })
+        (reply.Group (group_answer v.config (is_any_asleep_of v) ask (group_state v.group))) }
 {}
 
 /// A station joins. In each class it gets its quantum of airtime, and on each TID a new window and a mode: an

@@ -1,4 +1,5 @@
 -- Proves the law `the_readers_agree` by the lemmas of Readers.
+use Rattle.wf_send_half_model.proofs.Groups.{any_asleep_same}
 use Rattle.wf_send_half_model.proofs.Readers.{live_same, queued_same, due_same, waiting_same, waiting_count_same, agreed_same, held_back_same, offloaded_same, plain_same, can_give_same, can_send_same, can_send_in_same, ready_same, to_list_same, pending_same, deficit_same, asks_same, exchange_same, station_count_same, tid_count_same, class_count_same, airtime_same, ahead_same, class_queued_same, any_tid_same, live_credit_same, class_same}
 use Rattle.wf_send_half_model.proofs.the_readers_agree.Goals as goal
 
@@ -82,3 +83,6 @@ returns-clause-deficit c = deficit_same
 
 pub returns-clause-live_credit : goal.returns-clause-live_credit
 returns-clause-live_credit c = live_credit_same
+
+pub returns-clause-any_asleep : goal.returns-clause-any_asleep
+returns-clause-any_asleep c = any_asleep_same

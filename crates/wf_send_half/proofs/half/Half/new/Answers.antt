@@ -4,16 +4,19 @@ use Rattle.wf_frame.proofs.Ranges.{in_range}
 use Rattle.wf_send_half.proofs.Openings.{sizes, stands}
 use Rattle.wf_send_half.proofs.half.Half.new.Goals as goal
 
+pub new-requires-8 : goal.new-requires-8
+new-requires-8 c = (in_range c.args.config c.requires).buffered.1
+
 pub invariant_of-result : goal.invariant_of-result
 invariant_of-result c =
-    sizes c.args.config _ _ _ _ _ _ _ _ (in_range c.args.config c.requires) c.in_ok-flows.ensures.made
+    sizes c.args.config _ _ _ _ _ _ _ _ _ (in_range c.args.config c.requires) c.in_ok-flows.ensures.made
     c.in_ok-sched.ensures c.in_ok-windows.ensures c.in_ok-modes.ensures c.in_ok-members.ensures
     c.in_ok-sleepers.ensures
-    c.in_ok-opened.ensures c.new-8.ensures
+    c.in_ok-opened.ensures c.new-9.ensures c.in_ok-group.ensures
 
 pub returns : goal.returns
 returns c bodies =
-    stands c.args.config _ _ _ _ _ _ _ _ (in_range c.args.config c.requires) c.in_ok-flows.ensures.made
+    stands c.args.config _ _ _ _ _ _ _ _ _ (in_range c.args.config c.requires) c.in_ok-flows.ensures.made
     c.in_ok-sched.ensures c.in_ok-windows.ensures c.in_ok-modes.ensures c.in_ok-members.ensures
     c.in_ok-sleepers.ensures
-    c.in_ok-opened.ensures c.new-8.ensures bodies
+    c.in_ok-opened.ensures c.new-9.ensures c.in_ok-group.ensures bodies
