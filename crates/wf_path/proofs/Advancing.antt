@@ -37,6 +37,7 @@ module _ (x u : TransmitValue) (a : Addresses) (p : PathValue)
         accepted = before.accepted;
         charged = before.charged;
         received = before.received;
+        group = before.group;
       })
   small_after (Err r) fault moved refused small = subst IsSmall (sym (refused ∙ half_is same)) small
 

@@ -9,7 +9,7 @@ use Rattle.wf_frame.specs.declared.notes.Ask.{Ask}
 use Rattle.wf_frame.specs.declared.notes.Ask.TheVariants.{Cease}
 use Rattle.wf_frame.specs.declared.notes.Note.TheVariants.{Asked}
 use Rattle.wf_frame.specs.declared.notes.ReplyNote.{ReplyNote}
-use Rattle.wf_frame.specs.declared.notes.ReplyNote.TheVariants.{Joined, Left, Set, Now, Accepted, Send, Released, Ba, Done, Slept, Woken, Polled, Charged, Reaped, Stopped, Started, Marked, Flushed, Ack, Held, Begun, Freed, Ceased, Refused}
+use Rattle.wf_frame.specs.declared.notes.ReplyNote.TheVariants.{Joined, Left, Set, Now, Accepted, Send, Released, Ba, Done, Slept, Woken, Polled, Charged, Reaped, Stopped, Started, Marked, Flushed, Ack, Held, Begun, Freed, Ceased, Group, Refused}
 use Rattle.wf_def_world.specs.World.{World}
 use Rattle.wf_send_half_model.specs.Flushing.{released_at_cease}
 use Rattle.wf_send_half_model.specs.Half.{TransmitValue}
@@ -48,6 +48,7 @@ refused_so (Held start) is = absurd (cc is)
 refused_so Begun is = absurd (cc is)
 refused_so Freed is = absurd (cc is)
 refused_so (Ceased dropped ids) is = absurd (cc is)
+refused_so (Group answer) is = absurd (cc is)
 
 -- x is the half of the path p, a are its addresses, and u is the half after the call
 module _ (x : TransmitValue) (h : IsPath x) (ask : Ask) (reply : ReplyNote) (u : TransmitValue)

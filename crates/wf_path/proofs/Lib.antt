@@ -17,7 +17,7 @@ mod Marks
 mod Opened
 mod Openings
 mod Pulls
-mod Rises
+pub mod Rises
 mod SmallSums
 mod ToSend
 mod Values

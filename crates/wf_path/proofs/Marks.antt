@@ -105,10 +105,11 @@ then_counts w u o h k = record {
   exchanges = k.exchanges ∙ h.exchanges;
   accepted = k.accepted ∙ h.accepted;
   stations = k.stations ∙ h.stations;
+  group = k.group ∙ h.group;
 }
 
 same_counts : (w : World) → KeepsCounts w w
-same_counts w = record { clock = refl; exchanges = refl; accepted = refl; stations = refl }
+same_counts w = record { clock = refl; exchanges = refl; accepted = refl; stations = refl; group = refl }
 
 either_counts : (b : Bool) (w u o : World) → KeepsCounts w u → KeepsCounts w o →
     KeepsCounts w (if b then u else o)
@@ -117,7 +118,7 @@ either_counts false w u o h k = k
 
 rotated_counts : (w : World) (c : Class) (r : Rotation) → KeepsCounts w (with_rotation w c r)
 unfolding with_rotation
-rotated_counts w c r = record { clock = refl; exchanges = refl; accepted = refl; stations = refl }
+rotated_counts w c r = record { clock = refl; exchanges = refl; accepted = refl; stations = refl; group = refl }
 
 listed_counts : (cs : List Class) (w : World) (s : ℕ) → KeepsCounts w (with_listings_in w s cs)
 unfolding with_listings_in with_listing_in
@@ -129,7 +130,7 @@ replaced_counts : (w : World) (z : Exchange) (s : ℕ) →
     KeepsCounts w (with_listings_of (with_exchange w z) (Some s))
 unfolding with_listings_of with_exchange
 replaced_counts w z s = then_counts w (with_exchange w z) _
-    (record { clock = refl; exchanges = refl; accepted = refl; stations = refl })
+    (record { clock = refl; exchanges = refl; accepted = refl; stations = refl; group = refl })
     (listed_counts all_classes (with_exchange w z) s)
 
 -- ---- marks that are taken

@@ -3,6 +3,7 @@ use Rattle.std.proofs.Common.{ap, arith, ℕ, ◌<◌, Option, Some, None}
 use Rattle.std.specs.Prelude.{IfSome}
 use Rattle.wf_frame.specs.Frames.{FrameValue}
 use Rattle.wf_frame.specs.declared.settings.Config.{Config}
+use Rattle.wf_def_world.specs.Group.{GroupState}
 use Rattle.wf_def_world.specs.World.{opening}
 use Rattle.wf_send_half.proofs.Openings.{a_frame}
 use Rattle.wf_send_half_model.specs.Half.{TransmitValue}
@@ -27,4 +28,9 @@ new_below v config stands n some =
       accepted = omega (arith, ap (λ (x : Counts). x.accepted) others.tally, some);
       charged = λ s c. none_large (λ m. charged_in m c < n) (member v.members s) (others.stations.live s);
       received = λ s c. none_large (λ m. received_in m c < n) (member v.members s) (others.stations.live s);
+      group = record {
+        accepted = omega (arith, ap (λ (g : GroupState). g.accepted) others.group, some);
+        number = omega (arith, ap (λ (g : GroupState). g.number) others.group, some);
+        sent = omega (arith, ap (λ (g : GroupState). g.sent) others.group, some);
+      };
     }

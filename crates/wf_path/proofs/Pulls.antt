@@ -58,6 +58,7 @@ same_said w c l x brief.Begun pairs ids k e = e
 same_said w c l x brief.Freed pairs ids k e = e
 same_said w c l x (brief.Ceased dropped) pairs ids (Sends sent) e = absurd (let k = e ∙ sent.is in cc k)
 same_said w c l x (brief.Ceased dropped) pairs ids (Refuses r is how) e = absurd (let k = e ∙ how in cc k)
+same_said w c l x (brief.Group answer) pairs ids k e = e
 same_said w c l x (brief.Polled class) pairs ids k e = e
 same_said w c l x (brief.Charged deficit) pairs ids k e = e
 same_said w c l x (brief.Reaped id fate) pairs ids k e = e
@@ -145,6 +146,7 @@ refused_only (brief.Held start) pairs ids r is = absurd (cc is)
 refused_only brief.Begun pairs ids r is = absurd (cc is)
 refused_only brief.Freed pairs ids r is = absurd (cc is)
 refused_only (brief.Ceased dropped) pairs ids r is = absurd (cc is)
+refused_only (brief.Group answer) pairs ids r is = absurd (cc is)
 refused_only (brief.Refused reason) pairs ids r is = ap brief.Refused (cc is)
 
 -- a pull that is refused neither as Full nor as Ahead is refused as Idle

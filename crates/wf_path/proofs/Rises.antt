@@ -1,6 +1,6 @@
 -- Proves that no count of a path rises by more than 10,000,000 in a call, from the laws of the sums over a
 -- run.
-use Rattle.std.proofs.Common.{◌≡◌, refl, ap, sym, ◌∙◌, subst, arith, ℕ, ◌+◌, ◌≤◌, ◌<◌, ◌==◌, ◌&&◌, Bool, true, false, if◌then◌else◌, List, [], ◌∷◌, ◌++◌, Option, Some, None, is_some, is_none, IfSome, unwrap_or, inl, inr, ◌⊎◌}
+use Rattle.std.proofs.Common.{◌≡◌, refl, ap, sym, ◌∙◌, subst, arith, ℕ, ◌+◌, ◌*◌, ◌≤◌, ◌<◌, ◌==◌, ◌&&◌, Bool, true, false, if◌then◌else◌, List, [], ◌∷◌, ◌++◌, Option, Some, None, is_some, is_none, IfSome, unwrap_or, inl, inr, ◌⊎◌}
 use Rattle.std.proofs.lemmas.Bool.{and_parts, not-false}
 use Rattle.wf_frame.specs.Classes.{same_class}
 use Rattle.wf_frame.specs.Frames.{FrameValue}
@@ -13,7 +13,10 @@ use Rattle.wf_frame.specs.declared.notes.Refusal.{Refusal}
 use Rattle.wf_frame.specs.declared.notes.ReplyNote.{ReplyNote}
 use Rattle.wf_frame.specs.declared.settings.Config.{Config}
 use Rattle.wf_def_lists.specs.Bounds.{greatest_tick, greatest_air}
+use Rattle.wf_frame.specs.declared.notes.GroupAsk.{GroupAsk}
+use Rattle.wf_frame.specs.declared.notes.GroupAsk.TheVariants as group
 use Rattle.wf_def_lists.specs.Table.{at}
+use Rattle.wf_def_world.specs.Group.{GroupState, group_after}
 use Rattle.wf_def_world.specs.World.{World, Station, Exchange, no_station, accepted_count, exchange, share, is_live, opening}
 use Rattle.wf_def_world.specs.Refusals.{refusal, refusals}
 use Rattle.wf_def_world.specs.Run.{Entry, by, world_after}
@@ -23,12 +26,14 @@ use Rattle.wf_law_rules.proofs.Lemmas.Numbers.{on_bool, le_yes}
 use Rattle.wf_law_runs.specs.Numbers.{greatest_charge}
 use Rattle.wf_law_runs.specs.Sums.{since_join, air_by, charged_over, received_over}
 use Rattle.wf_law_runs.proofs.Deficits.Numbers.{longest_within}
+use Rattle.wf_law_runs.proofs.Groups.Steps.{group_step}
 use Rattle.wf_law_runs.proofs.Frames.Fates.{brought, steady_run, steady_first, counted_step, world_after-append}
 use Rattle.wf_law_runs.proofs.Sums.Airtime.{HasAdded, added}
 use Rattle.wf_law_runs.proofs.Sums.Counters.{counts_step}
 use Rattle.wf_law_runs.proofs.Windows.Agreed.{lawful}
 use Rattle.wf_law_runs.proofs.Windows.Opened.{NoRow, no_row}
 use Rattle.wf_sched_refines.specs.Standing.{share_in}
+use Rattle.wf_send_parts.specs.Group.{group_air_limit}
 use Rattle.wf_send_parts.specs.Members.{member, charged_in, received_in}
 use Rattle.wf_send_parts.specs.Tally.{Counts}
 use Rattle.wf_send_parts.specs.declared.stations.members.Member.{Member}
@@ -125,6 +130,37 @@ one_more : (w : World) (e : Entry) → world_after w (e ∷ []) ≡ (step w e.1)
 unfolding world_after
 one_more w e = refl
 
+-- ---- the counts of group frames
+
+-- the counts of group frames are below n
+record GroupIsBelow (n : ℕ) (g : GroupState) : Type 0 where
+  accepted : g.accepted < n
+  number : g.number < n
+  sent : group_air_limit * g.sent < n
+
+-- h has at most one accepted and one sent frame more than g, and at most one number
+pub record HasOneMore (g h : GroupState) : Type 0 where
+  pub accepted : h.accepted ≤ g.accepted + 1
+  pub number : h.number ≤ g.number + 1
+  pub sent : h.sent ≤ g.sent + 1
+
+one_call_more : (ask : GroupAsk) (config : Config) (g : GroupState) → HasOneMore g (group_after config ask g)
+one_call_more (group.Accept len) config g =
+    record { accepted = omega arith; number = omega arith; sent = omega arith }
+one_call_more group.Beacon config g =
+    record { accepted = omega arith; number = omega arith; sent = omega arith }
+one_call_more group.Pull config g =
+    record { accepted = omega arith; number = omega arith; sent = omega arith }
+one_call_more group.Done config g =
+    record { accepted = omega arith; number = omega arith; sent = omega arith }
+
+pub one_step_more : (w : World) (note : Note) → HasOneMore w.group (step w note).world.group
+one_step_more w note = elim (group_step note w) [
+  | inl quiet ↦ subst (HasOneMore w.group) (sym quiet.same)
+      (record { accepted = omega arith; number = omega arith; sent = omega arith })
+  | inr called ↦ subst (HasOneMore w.group) (sym called.1.after) (one_call_more called.0 w.config w.group)
+]
+
 -- ---- the counts of a world
 
 -- the counts of w are below n
@@ -134,6 +170,7 @@ record AreBelow (n : ℕ) (w : World) : Type 0 where
   accepted : accepted_count w < n
   charged : (s : ℕ) (c : Class) → is_live w s ≡ true → (share w s c).charged < n
   received : (s : ℕ) (c : Class) → is_live w s ≡ true → (share w s c).received < n
+  group : GroupIsBelow n w.group
 
 module _ (config : Config) (h : List Entry) (note : Note) (range : IsInRange config) where
   abbrev w : World
@@ -194,6 +231,12 @@ module _ (config : Config) (h : List Entry) (note : Note) (range : IsInRange con
               (added config h s c range was).received,
               k.received s c was,
             )));
+        group = (let more : HasOneMore w.group (step w note).world.group = one_step_more w note in
+            record {
+              accepted = omega (arith, more.accepted, k.group.accepted);
+              number = omega (arith, more.number, k.group.number);
+              sent = omega (arith, more.sent, k.group.sent);
+            });
       }
 
 -- for any world of a run
@@ -232,6 +275,11 @@ module _ (v : TransmitValue) (w : World) (bodies : ℕ → FrameValue) (st : Sta
         received = λ s c live. share_below (λ m. received_in m c) (λ y. (share_in y c).received) n
             (member v.members s) (at None w.stations s) (o.stations.live s) (λ k y is. is.received c) live
             (h.received s c);
+        group = record {
+          accepted = omega (arith, ap (λ (g : GroupState). g.accepted) o.group, h.group.accepted);
+          number = omega (arith, ap (λ (g : GroupState). g.number) o.group, h.group.number);
+          sent = omega (arith, ap (λ (g : GroupState). g.sent) o.group, h.group.sent);
+        };
       }
 
   path_below : AreBelow n w → HasCountsBelow n v
@@ -249,6 +297,11 @@ module _ (v : TransmitValue) (w : World) (bodies : ℕ → FrameValue) (st : Sta
             (o.stations.live s) (λ k y there is. subst (λ (m : ℕ). m < n) (sym (is.received c))
             (subst (λ (x : Option Station). (share_in (unwrap_or x no_station) c).received < n) there
             (h.received s c (ap is_some there))));
+        group = record {
+          accepted = omega (arith, ap (λ (g : GroupState). g.accepted) o.group, h.group.accepted);
+          number = omega (arith, ap (λ (g : GroupState). g.number) o.group, h.group.number);
+          sent = omega (arith, ap (λ (g : GroupState). g.sent) o.group, h.group.sent);
+        };
       }
 
 -- v represents a world before a call, and u the world after it
@@ -275,6 +328,11 @@ below_more v n k more h = record {
   accepted = omega (arith, more, h.accepted);
   charged = λ s c. still_less (λ m. charged_in m c) n k (member v.members s) more (h.charged s c);
   received = λ s c. still_less (λ m. received_in m c) n k (member v.members s) more (h.received s c);
+  group = record {
+    accepted = omega (arith, more, h.group.accepted);
+    number = omega (arith, more, h.group.number);
+    sent = omega (arith, more, h.group.sent);
+  };
 }
 
 -- unchanged counts do not rise
@@ -283,13 +341,14 @@ no_rise v n = below_more v n (n + greatest_tick) (omega arith)
 
 -- ---- calls that leave all counts as they are
 
--- u has the stations of w and as many accepted frames, and its clock and its number of exchanges are those of
--- w
+-- u has the stations and the group frames of w and as many accepted frames, and its clock and its number of
+-- exchanges are those of w
 pub record KeepsCounts (w u : World) : Type 0 where
   pub clock : u.clock ≡ w.clock
   pub exchanges : u.exchanges ≡ w.exchanges
   pub accepted : accepted_count u ≡ accepted_count w
   pub stations : u.stations ≡ w.stations
+  pub group : u.group ≡ w.group
 
 below_kept : (n : ℕ) (w u : World) → KeepsCounts w u → AreBelow n w → AreBelow n u
 below_kept n w u k h = record {
@@ -300,6 +359,7 @@ below_kept n w u k h = record {
       (share_in (unwrap_or (at None xs s) no_station) c).charged < n) (sym k.stations) (h.charged s c);
   received = λ s c. subst (λ (xs : List (Option Station)). is_some (at None xs s) ≡ true →
       (share_in (unwrap_or (at None xs s) no_station) c).received < n) (sym k.stations) (h.received s c);
+  group = subst (GroupIsBelow n) (sym k.group) h.group;
 }
 
 pub counts_kept : (v y : TransmitValue) (w u : World) (bodies after : ℕ → FrameValue) → StandsFor v w bodies →

@@ -5,6 +5,7 @@ use Rattle.std.proofs.lemmas.Bool.{cases_lt}
 use Rattle.std.proofs.lemmas.List.{get_or_past}
 use Rattle.wf_frame.specs.declared.classes.Class.{Class}
 use Rattle.wf_send_parts.specs.declared.stations.members.Member.{Member}
+use Rattle.wf_send_parts.specs.Group.{HasGroupBelow}
 use Rattle.wf_send_parts.specs.Members.{member, charged_in, received_in}
 use Rattle.wf_send_half_model.specs.Half.{TransmitValue}
 use Rattle.wf_path.specs.Paths.{IsPath, IsSmall}
@@ -38,11 +39,12 @@ one_more v k before this s c low = elim (cases_lt s k) [
 ]
 
 pub small_counts : (v : TransmitValue) → v.clock < 2 ^ 62 → v.exchanges < 2 ^ 62 → v.tally.accepted < 2 ^ 62 →
-    ((s : ℕ) (c : Class) → IsSmallIn v s c) → IsSmall v
-small_counts v clock exchanges accepted sums = record {
+    HasGroupBelow (2 ^ 62) v.group → ((s : ℕ) (c : Class) → IsSmallIn v s c) → IsSmall v
+small_counts v clock exchanges accepted group sums = record {
   clock = clock;
   exchanges = exchanges;
   accepted = accepted;
   charged = λ s c. (sums s c).charged;
   received = λ s c. (sums s c).received;
+  group = group;
 }

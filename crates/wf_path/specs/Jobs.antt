@@ -59,6 +59,7 @@ as_ask (path.Hold station tid) = machine.Hold station tid
 as_ask (path.Begin station tid window) = machine.Begin station tid window
 as_ask (path.Free station tid) = machine.Free station tid
 as_ask (path.Cease station tid) = machine.Cease station tid
+as_ask (path.Group ask) = machine.Group ask
 
 -- the machine's job that a path's job is
 abbrev pub job_of : PathJob → Job

@@ -4,6 +4,7 @@ pub mod Answers
 pub mod Driver
 pub mod Each
 pub mod Flights
+pub mod Group
 pub mod Heard
 pub mod Jobs
 pub mod Paths

@@ -8,6 +8,7 @@ use Rattle.wf_frame.specs.declared.notes.Ask.{Ask}
 use Rattle.wf_frame.specs.declared.notes.Note.TheVariants.{Asked}
 use Rattle.wf_def_lists.specs.Bounds.{greatest_tick}
 use Rattle.wf_def_world.specs.World.{World}
+use Rattle.wf_send_parts.specs.Group.{HasGroupBelow}
 use Rattle.wf_send_parts.specs.Members.{member, charged_in, received_in}
 use Rattle.wf_send_half_model.specs.Half.{TransmitValue}
 use Rattle.wf_send_half_model.specs.Standing.{StandsFor, Meets}
@@ -27,13 +28,14 @@ abbrev pub IsPath : TransmitValue → Type 0
 IsPath = HasUnheardWorld
 
 -- The counts of a path are below n: the clock, the exchanges that were opened, the frames that were accepted,
--- and what each live station was charged and used in each class.
+-- what each live station was charged and used in each class, and the counts of group frames.
 pub record HasCountsBelow (n : ℕ) (v : TransmitValue) : Type 0 where
   pub clock : v.clock < n
   pub exchanges : v.exchanges < n
   pub accepted : v.tally.accepted < n
   pub charged : (s : ℕ) (c : Class) → IfSome (member v.members s) (λ m. charged_in m c < n)
   pub received : (s : ℕ) (c : Class) → IfSome (member v.members s) (λ m. received_in m c < n)
+  pub group : HasGroupBelow n v.group
 
 -- the counts are below 2^62, so that one more call overflows none
 abbrev pub IsSmall : TransmitValue → Type 0

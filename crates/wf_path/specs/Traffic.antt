@@ -2,8 +2,10 @@
 -- (IEEE 802.11-2012, 8.4.2.7).
 use Rattle.std.specs.Prelude.{◌≡◌, ℕ, ◌+◌, ◌<◌, ◌==◌, Bool, false, ◌&&◌, List, length, is_some, filter, slice_index_or, Option}
 use Rattle.std.specs.List.{list_any, range_with_len}
+use Rattle.wf_def_tim.specs.Tim.{tim_element, with_group_bit}
 use Rattle.wf_def_world.specs.World.{World, station, is_live}
 use Rattle.wf_def_world.specs.Exchanges.{has_more}
+use Rattle.wf_octets.specs.declared.tim.Tim.{Tim}
 use Rattle.wf_send_parts.specs.Members.{member}
 use Rattle.wf_send_parts.specs.Sleepers.{sleeper}
 use Rattle.wf_send_half_model.specs.Half.{TransmitValue}
@@ -30,6 +32,10 @@ is_aid_shown a shown stations n = list_any (λ s. shown s && aid_in a s == n) (r
 abbrev pub aids_shown : Addresses → Option (List ℕ) → World → List ℕ
 aids_shown a bss w = filter (is_aid_shown a (λ s. has_traffic w s && is_of a bss s) w.config.stations)
     (range_with_len 0 identifiers)
+
+-- the TIM element with these fields and these AIDs
+abbrev pub tim_shown : Tim → Addresses → Option (List ℕ) → World → List ℕ
+tim_shown tim a bss w = with_group_bit tim.group (tim_element tim.count tim.period (aids_shown a bss w))
 
 -- an entry for each number, true for the AIDs of these stations for which `shown` is true
 pub record ArePresent (present : List Bool) (a : Addresses) (shown : ℕ → Bool) (stations : ℕ) : Type 0 where

@@ -5,7 +5,7 @@ ghost use Rattle.wf_path.specs.Jobs.{job_of, ask_about};
 ghost use Rattle.wf_path.specs.declared.asks.PathAsk.TheVariants.{Join, Offload, Plain, Begin};
 ghost use Rattle.wf_path.specs.declared.job.Job.TheVariants.{Call};
 
-use wf_frame::{Ask, AskedRate, Class, Limits};
+use wf_frame::{Ask, AskedRate, Class, GroupAsk, Limits};
 use wf_queue_parts::chain::Parcel;
 
 /// A call of a path.
@@ -23,7 +23,7 @@ pub enum PathJob {
     Reap,
 }
 
-/// A call of a path that brings and returns no frame, and whose answer has no lists: one of twenty-one. An
+/// A call of a path that brings and returns no frame, and whose answer has no lists: one of twenty-two. An
 /// argument outside its given range is refused.
 #[derive(Clone, Copy, Debug, PartialEq, Eq)]
 pub enum PathAsk {
@@ -151,6 +151,9 @@ pub enum PathAsk {
         station: u16,
         tid: u8,
     },
+    /// A call about group frames. One that is accepted so has the tag 0, and all stations are its
+    /// destination; `Path::accept_group` accepts one with a tag and a destination.
+    Group(GroupAsk),
 }
 
 /// A call of the machine about an open exchange. A path does not take it: it has no receivers, and
@@ -302,6 +305,7 @@ impl PathJob {
             } => Ok(PathJob::Call(PathAsk::begin(station, tid, window))),
             Ask::Free { station, tid } => Ok(PathJob::Call(PathAsk::Free { station, tid })),
             Ask::Cease { station, tid } => Ok(PathJob::Call(PathAsk::Cease { station, tid })),
+            Ask::Group(ask) => Ok(PathJob::Call(PathAsk::Group(ask))),
         }
     }
 }

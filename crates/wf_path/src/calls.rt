@@ -117,6 +117,7 @@ impl Path {
             } => self.begin(station, tid, window),
             PathAsk::Free { station, tid } => self.free(station, tid),
             PathAsk::Cease { station, tid } => self.cease(station, tid),
+            PathAsk::Group(ask) => self.group(ask),
         }
     }
 
@@ -274,8 +275,8 @@ fn reaped_brief(reaped: &Option<Parcel>) -> Brief
     match reaped {
         None => Brief::Refused(Refusal::Nothing),
         Some(parcel) => Brief::Reaped {
-            id: parcel.frame().id(),
-            fate: parcel.frame().fate(),
+            id: parcel.frame().id,
+            fate: parcel.frame().fate,
         },
     }
 }

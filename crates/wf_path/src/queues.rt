@@ -53,4 +53,15 @@ impl Path {
     {
         self.half.codel(q)
     }
+
+    /// Returns the number of frames that CoDel dropped from a queue since the start, for whichever stations
+    /// used it. It stays at 4,294,967,295 once it is there. Frames that are dropped for another cause, such
+    /// as the limit, do not count.
+    pub fn codel_drops(&self, q: u32) -> u32
+        requires { q < queues self.now.half.flows }
+        ensures { (w : World) (bodies : ℕ → FrameValue) → StandsFor self.now.half w bodies →
+            result ≡ (queue w q).codel.dropped }
+    {
+        self.half.codel_drops(q)
+    }
 }

@@ -134,7 +134,7 @@ impl Path {
             result ≡ exchange_has (exchange_in w exchange) (λ x. has x.unsent index) }
     {
         match self.half.exchange(exchange) {
-            Some(open) => open.is_unsent(index),
+            Some(open) => open.unsent.has(index),
             None => false,
         }
     }
@@ -147,7 +147,7 @@ impl Path {
     {
         let open = self.half.exchange(exchange)?;
         let seq = open.number_at(index)?;
-        Some(frame_of(&self.half, open, index, seq).id())
+        Some(frame_of(&self.half, open, index, seq).id)
     }
 
     /// Returns the tag of the frame of a transmission, by which its owner finds it again. None exactly if

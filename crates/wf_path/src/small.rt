@@ -4,19 +4,21 @@ ghost use Rattle.std.specs.Prelude.{◌≡◌, ◌≤◌, ℕ, ◌+◌, ◌*◌,
 ghost use Rattle.wf_def_lists.specs.Bounds.{greatest_tick};
 ghost use Rattle.wf_frame.specs.declared.classes.Class.{Class as ClassName};
 ghost use Rattle.wf_send_half.specs.Half.{IsLive};
+ghost use Rattle.wf_send_parts.specs.Group.{HasGroupBelow};
 ghost use Rattle.wf_send_half_model.specs.Half.{TransmitValue};
 ghost use Rattle.wf_path.specs.Paths.{HasCountsBelow, IsSmall};
 ghost use Rattle.wf_path.specs.Small.{IsSmallIn};
 
 use crate::Path;
 use wf_frame::{COUNT_LIMIT, Class};
+use wf_send_parts::group::GROUP_AIR_LIMIT;
 
 impl Path {
-    /// Returns whether the clock, the counts of exchanges and of accepted frames, and the airtime of each
-    /// live station in each class are below 2^62, as `call`, `done_bits` and `done_bytes` require. A driver
-    /// need not ask before each call: if all of them are below a number, they are below this number plus
-    /// 10,000,000 after a call (clause `rises`). So they stay small for the first 2^38 calls
-    /// (`first_calls_law`).
+    /// Returns whether the clock, the counts of exchanges and of accepted frames, the airtime of each live
+    /// station in each class, and the counts of group frames are below 2^62, as `call`, `accept_group`,
+    /// `done_bits` and `done_bytes` require. A driver need not ask before each call: if all of them are below
+    /// a number, they are below this number plus 10,000,000 after a call (clause `rises`). So they stay small
+    /// for the first 2^38 calls (`first_calls_law`).
     pub fn has_small_counts(&self) -> bool
         ensures small { result ≡ true → IsSmall self.now.half }
         ensures large { IsSmall self.now.half → result ≡ true }
@@ -24,7 +26,19 @@ impl Path {
         self.now() < COUNT_LIMIT
             && self.exchanges() < COUNT_LIMIT
             && self.tally().accepted < COUNT_LIMIT
+            && self.has_small_group()
             && self.has_small_sums()
+    }
+
+    // Returns whether the counts of group frames are small.
+    fn has_small_group(&self) -> bool
+        ensures small { result ≡ true → HasGroupBelow (2 ^ 62) self.now.half.group }
+        ensures large { HasGroupBelow (2 ^ 62) self.now.half.group → result ≡ true }
+    {
+        let counts = self.group_counts();
+        counts.accepted < COUNT_LIMIT
+            && counts.numbers < COUNT_LIMIT
+            && counts.sent < COUNT_LIMIT / GROUP_AIR_LIMIT
     }
 
     // Returns whether the airtimes of each station are small.

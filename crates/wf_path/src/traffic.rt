@@ -3,14 +3,14 @@
 ghost use Rattle.std.specs.Prelude.{◌≡◌, ◌≤◌, ◌&&◌, ℕ, Some, None, false, length, take, drop, replicate};
 ghost use Rattle.wf_frame.specs.Frames.{FrameValue};
 ghost use Rattle.wf_def_world.specs.World.{World};
-ghost use Rattle.wf_def_world.specs.Text.{traffic_map, with_traffic};
+ghost use Rattle.wf_def_world.specs.Text.{beacon_map, with_traffic};
 ghost use Rattle.wf_send_half_model.specs.Standing.{StandsFor};
 ghost use Rattle.wf_path.specs.Addresses.{is_of, made_up_aids};
-ghost use Rattle.wf_path.specs.Traffic.{has_traffic_of, aids_shown, identifiers, ArePresent};
+ghost use Rattle.wf_path.specs.Traffic.{has_traffic_of, aids_shown, identifiers, tim_shown, ArePresent};
 
 use crate::Path;
 use crate::addresses::AddressBook;
-use wf_octets::tim::encode_tim;
+use wf_octets::tim::{Tim, encode_tim};
 use wf_send_half::Transmit;
 
 /// The numbers from 0 to the greatest association identifier.
@@ -18,19 +18,20 @@ const IDENTIFIERS: usize = 2008;
 
 impl Path {
     /// Writes the TIM element (IEEE 802.11-2012, 8.4.2.7) of the live stations that sleep and have traffic,
-    /// of all BSSs, with DTIM count 0 and period 1, and returns its length in octets. It shows the
-    /// association identifier of each (`set_aid`), at first s + 1 for station s. The rest of `out` is
-    /// unchanged.
+    /// of all BSSs, and returns its length in octets. It has the DTIM count and period of the latest beacon,
+    /// and whether that announced group frames; before the first beacon the count is 0. It shows the
+    /// association identifier of each station (`set_aid`), at first s + 1 for station s. The rest of `out`
+    /// is unchanged.
     pub fn tim(&self, out: &mut [u8; 256]) -> usize
         ensures octets { (w : World) (bodies : ℕ → FrameValue) → StandsFor self.now.half w bodies →
-            take result out.new ≡ traffic_map (aids_shown self.now.addresses None w) }
+            take result out.new ≡ beacon_map w (aids_shown self.now.addresses None w) }
         ensures size { (w : World) (bodies : ℕ → FrameValue) → StandsFor self.now.half w bodies →
-            result ≡ length (traffic_map (aids_shown self.now.addresses None w)) }
+            result ≡ length (beacon_map w (aids_shown self.now.addresses None w)) }
         ensures rest { drop result out.new ≡ drop result out.old }
 
         // with the identifiers of a new path it is the element of a run
         ensures made_up { self.now.addresses.aids ≡ made_up_aids → (w : World) (bodies : ℕ → FrameValue) →
-            StandsFor self.now.half w bodies → take result out.new ≡ traffic_map (with_traffic w) }
+            StandsFor self.now.half w bodies → take result out.new ≡ beacon_map w (with_traffic w) }
     {
         self.write_tim(None, out)
     }
@@ -39,25 +40,43 @@ impl Path {
     /// point has this address (`set_bss`).
     pub fn tim_of(&self, bss: [u8; 6], out: &mut [u8; 256]) -> usize
         ensures octets { (w : World) (bodies : ℕ → FrameValue) → StandsFor self.now.half w bodies →
-            take result out.new ≡ traffic_map (aids_shown self.now.addresses (Some bss) w) }
+            take result out.new ≡ beacon_map w (aids_shown self.now.addresses (Some bss) w) }
         ensures size { (w : World) (bodies : ℕ → FrameValue) → StandsFor self.now.half w bodies →
-            result ≡ length (traffic_map (aids_shown self.now.addresses (Some bss) w)) }
+            result ≡ length (beacon_map w (aids_shown self.now.addresses (Some bss) w)) }
         ensures rest { drop result out.new ≡ drop result out.old }
     {
         self.write_tim(Some(bss), out)
     }
 
-    // Writes the TIM element of this BSS, or of all.
-    fn write_tim(&self, bss: Option<[u8; 6]>, out: &mut [u8; 256]) -> usize
+    /// Writes the TIM element with these fields, of this BSS, or of all: for a driver whose hardware counts
+    /// beacons, or sends group frames from a queue of its own.
+    pub fn tim_with(&self, tim: Tim, bss: Option<[u8; 6]>, out: &mut [u8; 256]) -> usize
         ensures octets { (w : World) (bodies : ℕ → FrameValue) → StandsFor self.now.half w bodies →
-            take result out.new ≡ traffic_map (aids_shown self.now.addresses bss w) }
+            take result out.new ≡ tim_shown tim self.now.addresses bss w }
         ensures size { (w : World) (bodies : ℕ → FrameValue) → StandsFor self.now.half w bodies →
-            result ≡ length (traffic_map (aids_shown self.now.addresses bss w)) }
+            result ≡ length (tim_shown tim self.now.addresses bss w) }
         ensures rest { drop result out.new ≡ drop result out.old }
     {
         let mut present = [false; IDENTIFIERS];
         mark_present(&self.half, &self.addresses, bss, &mut present);
-        encode_tim(&present, 0, 1, out)
+        encode_tim(&present, tim, out)
+    }
+
+    // Writes the TIM element of the latest beacon, of this BSS, or of all.
+    fn write_tim(&self, bss: Option<[u8; 6]>, out: &mut [u8; 256]) -> usize
+        ensures octets { (w : World) (bodies : ℕ → FrameValue) → StandsFor self.now.half w bodies →
+            take result out.new ≡ beacon_map w (aids_shown self.now.addresses bss w) }
+        ensures size { (w : World) (bodies : ℕ → FrameValue) → StandsFor self.now.half w bodies →
+            result ≡ length (beacon_map w (aids_shown self.now.addresses bss w)) }
+        ensures rest { drop result out.new ≡ drop result out.old }
+    {
+        let beacon = self.half.beacon();
+        let tim = Tim {
+            count: beacon.count,
+            period: beacon.period,
+            group: beacon.announced,
+        };
+        self.tim_with(tim, bss, out)
     }
 }
 

@@ -113,3 +113,8 @@ pub returns-in-Cease : goal.returns-in-Cease
 returns-in-Cease c =
     subst (λ (ask : PathAsk). IsAnsweredBriefly c.args.self.now (as_ask ask) c.cease.new.self c.cease.result)
     (sym c.in-Cease.is) c.cease.ensures
+
+pub returns-in-Group : goal.returns-in-Group
+returns-in-Group c =
+    subst (λ (ask : PathAsk). IsAnsweredBriefly c.args.self.now (as_ask ask) c.group.new.self c.group.result)
+    (sym c.in-Group.is) c.group.ensures

@@ -1,6 +1,7 @@
 -- Proves what `Path::frame_id` promises. By cases: the exchange is not open, it has no number at the index,
 -- or the number's frame is the world's and has its id.
-use Rattle.std.proofs.Common.{◌∙◌, sym}
+use Rattle.std.proofs.Common.{◌∙◌, ap, sym}
+use Rattle.wf_frame.specs.Frames.{FrameValue}
 use Rattle.wf_path.proofs.Flying.{some_flies, id_is, no_exchange, no_number}
 use Rattle.wf_path.proofs.Inside.{stands_inside, has_world}
 use Rattle.wf_path.proofs.path.Path.frame_id.Goals as goal
@@ -25,4 +26,5 @@ pub returns : goal.returns
 returns c w bodies h =
     id_is c.self.inside.half c.args.exchange c.in_ok-open.open.now c.args.index c.in_ok-seq.seq
     c.in_ok-open.ensures (sym c.in_ok-seq.ensures) w bodies (stands_inside c.self.view_is w bodies h)
-    c.frame_of.result.now c.id.result (λ x m f. c.frame_of.ensures w bodies x m f) c.id.ensures
+    c.frame_of.result.now c.behind-self.inside.id (λ x m f. c.frame_of.ensures w bodies x m f)
+    (ap (λ (f : FrameValue). f.id) c.behind-self.view_is)

@@ -1,9 +1,8 @@
--- Proves that the counts are small if `Path::has_small_counts` returns true, from its four tests.
+-- Proves that the counts are small if `Path::has_small_counts` returns true, from its five tests.
 use Rattle.std.proofs.Common.{rules}
 use Rattle.wf_path.proofs.SmallSums.{small_counts}
 use Rattle.wf_path.proofs.path.Path.has_small_counts.Goals as goal
 
-pub returns-then-tally-lt-COUNT_LIMIT-clause-small : goal.returns-then-tally-lt-COUNT_LIMIT-clause-small
-returns-then-tally-lt-COUNT_LIMIT-clause-small c is = small_counts c.args.self.now.half (search rules) (search
-    rules)
-    (search rules) (c.has_small_sums.ensures.small is)
+pub returns-then-has_small_group-clause-small : goal.returns-then-has_small_group-clause-small
+returns-then-has_small_group-clause-small c is = small_counts c.args.self.now.half (search rules) (search rules)
+    (search rules) (search rules) (c.has_small_sums.ensures.small is)

@@ -6,7 +6,7 @@ use Rattle.wf_path.proofs.Opened.{none_unsent, some_unsent}
 use Rattle.wf_path.proofs.path.Path.is_unsent.Goals as goal
 
 pub returns-in-Some : goal.returns-in-Some
-returns-in-Some c w bodies h = c.is_unsent.ensures
+returns-in-Some c w bodies h = c.has.ensures
     ∙ some_unsent c.self.inside.half w bodies (stands_inside c.self.view_is w bodies h) c.args.exchange
     c.args.index c.in-Some.open.now c.in-Some.ensures
 

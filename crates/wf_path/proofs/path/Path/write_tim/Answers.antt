@@ -1,33 +1,22 @@
--- Proves what `Path::write_tim` promises: the identifiers that are present are those that the element of the
--- world shows, so the element that is written is the world's.
-use Rattle.std.proofs.Common.{◌≡◌, ap, ◌∙◌, arith, List, ℕ, length}
-use Rattle.wf_frame.specs.declared.settings.Config.{Config}
-use Rattle.wf_def_tim.specs.Tim.{tim_element}
-use Rattle.wf_octets.specs.Tim.{aids_of}
-use Rattle.wf_path.specs.Addresses.{Addresses}
+-- Proves what `Path::write_tim` promises: the latest beacon is the world's, so the element that is written is
+-- the world's.
+use Rattle.std.proofs.Common.{ap, ◌∙◌, length}
+use Rattle.wf_def_tim.specs.Tim.{tim_element, with_group_bit}
+use Rattle.wf_send_parts.specs.declared.group.Beacon.{Beacon}
 use Rattle.wf_path.specs.Traffic.{aids_shown}
-use Rattle.wf_path.proofs.Identifiers.{shown_are}
 use Rattle.wf_path.proofs.Inside.{stands_inside}
-use Rattle.wf_path.proofs.Values.{addresses_are}
 use Rattle.wf_path.proofs.path.Path.write_tim.Goals as goal
-
-pub mark_present-requires-clause-few : goal.mark_present-requires-clause-few
-mark_present-requires-clause-few c =
-    let few = c.self.invariant.stands.reached.in_range.stations.1 in
-    omega (arith, few, ap (λ (k : Config). k.stations) c.self.invariant.stands.parts.others.config)
 
 pub returns-clause-octets : goal.returns-clause-octets
 returns-clause-octets c w bodies h =
-    let aids : aids_of c.mark_present.new.present ≡ aids_shown c.args.self.now.addresses c.args.bss w =
-    shown_are c.self.inside.half w bodies (stands_inside c.self.view_is w bodies h)
-    c.mark_present.new.present c.self.inside.addresses c.args.bss c.mark_present.ensures
-    ∙ ap (λ (a : Addresses). aids_shown a c.args.bss w) (addresses_are c.self.view_is) in
-    c.encode_tim.ensures.octets ∙ ap (tim_element 0 1) aids
+    let aids = aids_shown c.args.self.now.addresses c.args.bss w in
+    c.tim_with.ensures.octets w bodies h
+    ∙ ap (λ (b : Beacon). with_group_bit b.announced (tim_element b.count b.period aids))
+    (c.beacon-beacon.ensures.world w bodies (stands_inside c.self.view_is w bodies h))
 
 pub returns-clause-size : goal.returns-clause-size
 returns-clause-size c w bodies h =
-    let aids : aids_of c.mark_present.new.present ≡ aids_shown c.args.self.now.addresses c.args.bss w =
-    shown_are c.self.inside.half w bodies (stands_inside c.self.view_is w bodies h)
-    c.mark_present.new.present c.self.inside.addresses c.args.bss c.mark_present.ensures
-    ∙ ap (λ (a : Addresses). aids_shown a c.args.bss w) (addresses_are c.self.view_is) in
-    c.encode_tim.ensures.size ∙ ap (λ (l : List ℕ). length (tim_element 0 1 l)) aids
+    let aids = aids_shown c.args.self.now.addresses c.args.bss w in
+    c.tim_with.ensures.size w bodies h
+    ∙ ap (λ (b : Beacon). length (with_group_bit b.announced (tim_element b.count b.period aids)))
+    (c.beacon-beacon.ensures.world w bodies (stands_inside c.self.view_is w bodies h))
