@@ -122,6 +122,7 @@ module _ (v : TransmitValue) (w : World) (bodies : ℕ → FrameValue) (stands :
   by_call ask reply.Begun id = stays id
   by_call ask reply.Freed id = stays id
   by_call ask (reply.Ceased dropped released) id = stays id
+  by_call ask (reply.Group answer) id = stays id
   by_call ask (reply.Polled class) id = stays id
   by_call ask (reply.Charged deficit) id = stays id
   by_call ask (reply.Reaped gone fate) id = goes gone id
@@ -152,6 +153,7 @@ module _ (v : TransmitValue) (w : World) (bodies : ℕ → FrameValue) (stands :
   by_reply (Give f) reply.Begun id next = stays id
   by_reply (Give f) reply.Freed id next = stays id
   by_reply (Give f) (reply.Ceased dropped released) id next = stays id
+  by_reply (Give f) (reply.Group answer) id next = stays id
   by_reply (Give f) (reply.Polled class) id next = stays id
   by_reply (Give f) (reply.Charged deficit) id next = stays id
   by_reply (Give f) (reply.Reaped gone fate) id next = goes gone id
@@ -220,6 +222,7 @@ reaped_body v w bodies job answered back stands told given id fate is =
     of (Call (ask.Begin s t window)) e = tt
     of (Call (ask.Free s t)) e = tt
     of (Call (ask.Cease s t)) e = tt
+    of (Call (ask.Group asked)) e = tt
 
 -- an id has a body exactly if its frame is inside
 pub ids_inside : (v : TransmitValue) (w : World) (bodies : ℕ → FrameValue) → StandsFor v w bodies → (id : ℕ) →

@@ -517,6 +517,7 @@ ask_untold (path_ask.GiveUp e i) no_newcomer no_flush no_begin no_cease = tt
 ask_untold (path_ask.Weight s weight) no_newcomer no_flush no_begin no_cease = tt
 ask_untold (path_ask.Hold s t) no_newcomer no_flush no_begin no_cease = tt
 ask_untold (path_ask.Free s t) no_newcomer no_flush no_begin no_cease = tt
+ask_untold (path_ask.Group ask) no_newcomer no_flush no_begin no_cease = tt
 
 -- such a call may be made in any world, except an Unsent
 pub ask_may : (ask : PathAsk) → ((e i : ℕ) → ask ≡ path_ask.Unsent e i → ⊥) → (w : World) →
@@ -542,6 +543,7 @@ ask_may (path_ask.Hold s t) other w = tt
 ask_may (path_ask.Begin s t window) other w = tt
 ask_may (path_ask.Free s t) other w = tt
 ask_may (path_ask.Cease s t) other w = tt
+ask_may (path_ask.Group ask) other w = tt
 
 pub job_may : (job : PathJob) → ((ask : PathAsk) → job ≡ path_job.Call ask → ⊥) → (w : World) →
     MayCall w (job_of job)
@@ -582,6 +584,7 @@ not_received (path_job.Call (path_ask.Hold s t)) = refl
 not_received (path_job.Call (path_ask.Begin s t window)) = refl
 not_received (path_job.Call (path_ask.Free s t)) = refl
 not_received (path_job.Call (path_ask.Cease s t)) = refl
+not_received (path_job.Call (path_ask.Group ask)) = refl
 
 -- for a call of the path alone, the reply says whether the path is unchanged
 pub path_kept_by : (job : PathJob) (answered : ReplyNote) →

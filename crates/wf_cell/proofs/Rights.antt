@@ -85,6 +85,7 @@ module _ (v : TransmitValue) (w : World) (bodies : ℕ → FrameValue) (stands :
   back_is (Give f) reply.Begun e = refl
   back_is (Give f) reply.Freed e = refl
   back_is (Give f) (reply.Ceased dropped released) e = refl
+  back_is (Give f) (reply.Group answer) e = refl
   back_is (Give f) (reply.Polled class) e = refl
   back_is (Give f) (reply.Charged deficit) e = refl
   back_is (Give f) (reply.Reaped id fate) e = refl
@@ -109,6 +110,7 @@ module _ (v : TransmitValue) (w : World) (bodies : ℕ → FrameValue) (stands :
   back_is (Call ask.Reap) reply.Begun e = refl
   back_is (Call ask.Reap) reply.Freed e = refl
   back_is (Call ask.Reap) (reply.Ceased dropped released) e = refl
+  back_is (Call ask.Reap) (reply.Group answer) e = refl
   back_is (Call ask.Reap) (reply.Polled class) e = refl
   back_is (Call ask.Reap) (reply.Charged deficit) e = refl
   back_is (Call ask.Reap) (reply.Reaped id fate) e = reaped_back id fate e
@@ -138,6 +140,7 @@ module _ (v : TransmitValue) (w : World) (bodies : ℕ → FrameValue) (stands :
   back_is (Call (ask.Begin s t window)) answered e = refl
   back_is (Call (ask.Free s t)) answered e = refl
   back_is (Call (ask.Cease s t)) answered e = refl
+  back_is (Call (ask.Group asked)) answered e = refl
 
 -- an answer is right if its reply is the run's and the returned frame is the path's
 pub is_right : (v : TransmitValue) (p : Past) (bodies : ℕ → FrameValue) (job : Job) (answered : ReplyNote)

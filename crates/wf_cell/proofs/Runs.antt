@@ -1,5 +1,5 @@
 -- Proves what the laws of runs say of the world after a history, and of a history with one more entry.
-use Rattle.std.proofs.Common.{◌≡◌, refl, ap, ◌∙◌, subst, ℕ, ◌*◌, ◌<◌, ◌≤◌, ◌^◌, List, [], ◌∷◌, ◌++◌, length, take, Option, Some, None, IfSome, is_some, unwrap_or, arith}
+use Rattle.std.proofs.Common.{◌≡◌, refl, ap, ◌∙◌, subst, ℕ, ◌+◌, ◌*◌, ◌<◌, ◌≤◌, ◌^◌, List, [], ◌∷◌, ◌++◌, length, take, Option, Some, None, IfSome, is_some, unwrap_or, arith}
 use Rattle.wf_frame.specs.Frames.{FrameValue}
 use Rattle.wf_frame.specs.declared.classes.Class.{Class}
 use Rattle.wf_frame.specs.declared.settings.Config.{Config}
@@ -7,6 +7,7 @@ use Rattle.wf_frame.specs.Settings.{IsInRange}
 use Rattle.wf_def_lists.specs.Bounds.{greatest_tick}
 use Rattle.wf_def_lists.specs.Lengths.{greatest_body}
 use Rattle.wf_def_lists.specs.Table.{at}
+use Rattle.wf_def_world.specs.Group.{GroupState, no_group}
 use Rattle.wf_def_world.specs.World.{World, Station, no_station, opening}
 use Rattle.wf_def_world.specs.Run.{Entry, Past, world_after, world_of}
 use Rattle.wf_def_world.specs.Step.{step}
@@ -24,6 +25,7 @@ use Rattle.wf_sched_refines.specs.Standing.{share_in}
 use Rattle.wf_send_half_model.specs.Half.{TransmitValue}
 use Rattle.wf_send_half_model.specs.Standing.{StandsFor, IsMember, AreBoth}
 use Rattle.wf_path.specs.Paths.{IsSmall}
+use Rattle.wf_path.proofs.Rises.{HasOneMore, one_step_more}
 
 -- ---- one more entry
 
@@ -101,6 +103,25 @@ of_member P None x both each = tt
 of_member P (Some k) None both each = absurd both
 of_member P (Some k) (Some y) both each = each k y refl both
 
+-- the counts of group frames after some calls: each call raises each by at most 1
+record HasFewMore (n : ℕ) (g h : GroupState) : Type 0 where
+  accepted : h.accepted ≤ g.accepted + n
+  number : h.number ≤ g.number + n
+  sent : h.sent ≤ g.sent + n
+
+few_more : (h : List Entry) (w : World) → HasFewMore (length h) w.group (world_after w h).group
+unfolding world_after
+few_more [] w = record { accepted = omega arith; number = omega arith; sent = omega arith }
+few_more (e ∷ h) w =
+    let one : HasOneMore w.group (step w e.1).world.group = one_step_more w e.1 in
+    let rest : HasFewMore (length h) (step w e.1).world.group (world_after (step w e.1).world h).group =
+    few_more h (step w e.1).world in
+    record {
+      accepted = omega (arith, one.accepted, rest.accepted);
+      number = omega (arith, one.number, rest.number);
+      sent = omega (arith, one.sent, rest.sent);
+    }
+
 -- a path that represents the world after at most 4,294,967,295 calls has small counts
 pub small_of : (v : TransmitValue) (p : Past) (bodies : ℕ → FrameValue) → IsInRange p.config →
     StandsFor v (world_of p) bodies → length p.history ≤ 4294967295 → IsSmall v
@@ -108,6 +129,7 @@ small_of v p bodies range s few =
     let w : World = world_of p in
     let sums = sums_of p (laws p.config p.history range) in
     let o = s.parts.others in
+    let more : HasFewMore (length p.history) no_group w.group = few_more p.history (opening p.config) in
     let of_station : (i : ℕ) (c : Class) (y : Station) → at None w.stations i ≡ Some y →
     IsSum p.config (take (length p.history) p.history) (length p.history) i c (share_in y c) =
     λ i c y there. subst (λ (x : Option Station).
@@ -123,4 +145,9 @@ small_of v p bodies range s few =
       received = λ i c. of_member (λ k. received_in k c < 2 ^ 62) (member v.members i) (at None w.stations i)
           (o.stations.live i)
           (λ k y there is. omega (arith, is.received c, (of_station i c y there).most_received));
+      group = record {
+        accepted = omega (arith, ap (λ (g : GroupState). g.accepted) o.group, more.accepted, few);
+        number = omega (arith, ap (λ (g : GroupState). g.number) o.group, more.number, few);
+        sent = omega (arith, ap (λ (g : GroupState). g.sent) o.group, more.sent, few);
+      };
     }
