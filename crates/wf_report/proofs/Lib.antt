@@ -16,9 +16,13 @@ mod Complete
 pub mod WrittenCaptures
 pub mod Sampled
 mod SentPackets
+mod Beacons
 pub mod Listed
 mod Acks
 pub mod Cells
 pub mod Entries
 mod Answered
+mod GroupPackets
+mod TimLaws
 mod BlockAckRows
+mod GroupFrameRows

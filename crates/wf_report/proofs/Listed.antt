@@ -1,7 +1,9 @@
 -- Proves that the packets of a run can be in a capture, so that `frames` lists each of them.
-use Rattle.std.proofs.Common.{◌≡◌, refl, sym, subst, ℕ, ◌+◌, ◌*◌, ◌^◌, ◌<◌, ◌≤◌, Bool, true, false, List, [], ◌∷◌, ◌++◌, length, map, Option, Some, None, lit≤, arith, length-append}
+use Rattle.std.proofs.Common.{◌≡◌, refl, sym, ap, subst, ℕ, ◌+◌, ◌*◌, ◌^◌, ◌<◌, ◌≤◌, Bool, true, false, List, [], ◌∷◌, ◌++◌, length, map, Option, Some, None, lit≤, arith, length-append}
 use Rattle.std.specs.Prelude.{option_and_then}
 use Rattle.wf_frame.specs.Settings.{IsInRange}
+use Rattle.wf_frame.specs.declared.notes.GroupReply.{GroupReply}
+use Rattle.wf_frame.specs.declared.notes.GroupReply.TheVariants as answer
 use Rattle.wf_frame.specs.declared.notes.Note.{Note}
 use Rattle.wf_frame.specs.declared.notes.Note.TheVariants.{Enqueue, Asked}
 use Rattle.wf_frame.specs.declared.notes.ReplyNote.{ReplyNote}
@@ -12,6 +14,7 @@ use Rattle.wf_report.specs.ListedPackets.{most_octets_read}
 use Rattle.wf_report.specs.ListingLaw.{Sent, AreWritable, IsListed}
 use Rattle.wf_report.proofs.WrittenCaptures.{written_law}
 use Rattle.wf_octets.specs.HeaderLayout.{header_as_octets}
+use Rattle.wf_def_world.specs.Group.{GroupFrame}
 use Rattle.wf_def_world.specs.World.{World, Mpdu, Exchange, Content, Frames, Request, exchange, frame, len_of, opening}
 use Rattle.wf_def_world.specs.Run.{Entry, world_after}
 use Rattle.wf_def_world.specs.Step.{step}
@@ -20,11 +23,13 @@ use Rattle.wf_law_runs.specs.Queues.{IsAtMost, AreAtMost}
 use Rattle.wf_law_runs.proofs.Sent.Lengths.{IsStocked, stocked}
 use Rattle.wf_path.specs.Transmissions.{header_of, data_octets, octets_of_content}
 use Rattle.wf_path.proofs.MadeUp.{plain, frames_plain}
-use Rattle.wf_cell.proofs.Runs.{world_then, time_by}
+use Rattle.wf_cell.proofs.Runs.{world_then, time_by, config_after}
 use Rattle.wf_cell.proofs.Written.{header_long}
 use Rattle.wf_report.specs.Captures.{most_calls_timed, sample_of, samples, packets_by, packets_from, packets_in, capture_of}
-use Rattle.wf_report.specs.Packets.{frames_sent, frames_by, block_acks, exchange_answered, packets_at}
+use Rattle.wf_report.specs.GroupFrames.{group_frames}
+use Rattle.wf_report.specs.Packets.{frames_sent, frames_by, frames_of_group, block_acks, exchange_answered, packets_at}
 use Rattle.wf_report.proofs.Sampled.{length_sample}
+use Rattle.wf_report.proofs.Beacons.{beacon_short, group_short}
 
 -- ---- frames that fit in a packet
 
@@ -78,13 +83,27 @@ acks_short start b0 b1 b2 b3 wide None = tt
 acks_short start b0 b1 b2 b3 true (Some x) = (lit≤ tt, tt)
 acks_short start b0 b1 b2 b3 false (Some x) = (lit≤ tt, tt)
 
-frames_short : (w : World) → IsStocked greatest_body w → (note : Note) (answered : ReplyNote) →
+flying_short : (number : ℕ) (more : Bool) (flying : Option GroupFrame) →
+    AreShort (group_frames number more flying)
+flying_short number more None = tt
+flying_short number more (Some x) = (group_short number more x.len, tt)
+
+group_frames_short : (w : World) → w.config.stations ≤ 256 → (answered : GroupReply) →
+    AreShort (frames_of_group w answered)
+group_frames_short w few (answer.Queued id) = tt
+group_frames_short w few (answer.Beacon count follows) = (beacon_short w few, tt)
+group_frames_short w few (answer.Send id number air more) = flying_short number more w.group.flying
+group_frames_short w few (answer.Done id) = tt
+
+frames_short : (w : World) → IsStocked greatest_body w → w.config.stations ≤ 256 → (note : Note)
+    (answered : ReplyNote) →
     AreShort (frames_by w (samples w) note answered)
-frames_short w all note (reply.Send e s t air part more) = sent_short w all e
-frames_short w all note (reply.Ba start b0 b1 b2 b3 wide) =
+frames_short w all few note (reply.Send e s t air part more) = sent_short w all e
+frames_short w all few note (reply.Ba start b0 b1 b2 b3 wide) =
     acks_short start b0 b1 b2 b3 wide (option_and_then (exchange w) (exchange_answered note))
-frames_short w all note reply.Ack = (lit≤ tt, tt)
-frames_short w all note _ = tt
+frames_short w all few note reply.Ack = (lit≤ tt, tt)
+frames_short w all few note (reply.Group answered) = group_frames_short w few answered
+frames_short w all few note _ = tt
 
 writable_at : (at : ℕ) (frames : List (List ℕ)) → at < 2 ^ 32 * 1000000 → AreShort frames →
     AreWritable (packets_at at frames)
@@ -122,7 +141,10 @@ writable_from config past (e ∷ rest) range old new few =
     (subst (λ (v : World). v.clock < 2 ^ 32 * 1000000)
     then (omega (arith, time_by config h range, long, few)))
     (frames_short (step w e.1).world (subst (IsStocked greatest_body)
-    then (stocked greatest_body config h most)) e.1 (step w e.1).reply))
+    then (stocked greatest_body config h most))
+    (subst (λ (v : World). v.config.stations ≤ 256)
+    then (omega (arith, range.stations.1, ap (λ (c : Config). c.stations) (config_after h (opening config)))))
+    e.1 (step w e.1).reply))
     (subst (λ (v : World). AreWritable (packets_from v rest))
     then (writable_from config h rest range most new.1 (omega (arith, long, few))))
 

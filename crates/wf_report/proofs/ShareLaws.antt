@@ -6,11 +6,15 @@ use Rattle.std.specs.Io.KnownBytes.{append_known}
 use Rattle.std.proofs.lemmas.List.{map-append}
 use Rattle.wf_def_lists.specs.Table.{upto}
 use Rattle.wf_def_world.specs.World.{World, is_live}
-use Rattle.wf_def_world.specs.Text.{share_lines}
+use Rattle.wf_def_world.specs.Text.{share_lines, group_line, summary}
 use Rattle.wf_io.specs.Fronts.{HoldsFront}
 use Rattle.wf_io.proofs.FrontLaws.{front_first, front_next}
-use Rattle.wf_report.specs.Parts.{lines_of, shares_of}
+use Rattle.wf_report.specs.Parts.{lines_of, shares_of, counts_of_summary, map_line, parts_of_summary}
 use Rattle.wf_report.proofs.Rows.{upto-more, kept-more, kept-same, concat-append, filter-append}
+
+-- The parts, in order, are the summary.
+pub parts_are : (w : World) (calls : ℕ) → parts_of_summary w calls ≡ summary w calls
+parts_are w calls = sym (append_assoc (counts_of_summary w calls ++ shares_of w) (group_line w) (map_line w))
 
 -- The lines of the stations below a number.
 abbrev pub shares_below : World → ℕ → List ℕ

@@ -9,6 +9,7 @@ pub mod ListingOutcome
 pub mod ListingLaw
 pub mod AckFrames
 pub mod BlockAcks
+pub mod GroupFrames
 pub mod Packets
 pub mod Captures
 pub mod Samples

@@ -1,11 +1,12 @@
 -- Defines the text that `frames` writes for a capture.
 use Rattle.std.specs.Prelude.{ℕ, List, [], ◌∷◌, ◌++◌, length, codes, decimal, flat_map, Option, Some, None}
 use Rattle.wf_frame.specs.Words.{line}
+use Rattle.wf_def_world.specs.Text.{bit_word}
 use Rattle.wf_report.specs.declared.captures.listing.fault.Fault.{Fault}
 use Rattle.wf_report.specs.declared.captures.listing.fault.FaultKind.{FaultKind}
 use Rattle.wf_report.specs.declared.captures.listing.fault.FaultKind.TheVariants.{Short, Magic, Version, Link, Long, TooBig}
 use Rattle.wf_report.specs.declared.captures.listing.frame.Frame.{Frame}
-use Rattle.wf_report.specs.declared.captures.listing.frame.Frame.TheVariants.{Data, Bar, Ba, Other}
+use Rattle.wf_report.specs.declared.captures.listing.frame.Frame.TheVariants.{Data, Bar, Ba, Beacon, Group, Other}
 use Rattle.wf_report.specs.Frames.{frame_listed}
 use Rattle.wf_report.specs.ListedPackets.{Captured, Listing, listing}
 
@@ -14,6 +15,10 @@ abbrev pub frame_words : Frame → List (List ℕ)
 frame_words (Data tid seq) = codes "data" ∷ codes "tid" ∷ decimal tid ∷ codes "seq" ∷ decimal seq ∷ []
 frame_words (Bar tid start) = codes "bar" ∷ codes "tid" ∷ decimal tid ∷ codes "start" ∷ decimal start ∷ []
 frame_words (Ba tid start) = codes "ba" ∷ codes "tid" ∷ decimal tid ∷ codes "start" ∷ decimal start ∷ []
+frame_words (Beacon seq count period group) =
+    codes "beacon" ∷ codes "seq" ∷ decimal seq ∷ codes "count" ∷ decimal count
+    ∷ codes "period" ∷ decimal period ∷ codes "group" ∷ bit_word group ∷ []
+frame_words (Group seq) = codes "group" ∷ codes "seq" ∷ decimal seq ∷ []
 frame_words Other = codes "other" ∷ []
 
 -- The line of a packet: its time as in its header, its captured length, and the words of its frame.

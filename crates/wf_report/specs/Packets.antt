@@ -3,10 +3,13 @@ use Rattle.std.specs.Prelude.{ℕ, Bool, true, false, List, [], ◌∷◌, map, 
 use Rattle.std.specs.Option.{option_map_or}
 use Rattle.wf_frame.specs.Frames.{FrameValue}
 use Rattle.wf_frame.specs.declared.notes.Ask.TheVariants.{Answer}
+use Rattle.wf_frame.specs.declared.notes.GroupReply.{GroupReply}
+use Rattle.wf_frame.specs.declared.notes.GroupReply.TheVariants as answer
 use Rattle.wf_frame.specs.declared.notes.Note.{Note}
 use Rattle.wf_frame.specs.declared.notes.Note.TheVariants.{Asked}
 use Rattle.wf_frame.specs.declared.notes.ReplyNote.{ReplyNote}
 use Rattle.wf_frame.specs.declared.notes.ReplyNote.TheVariants.{Send, Ba, Ack}
+use Rattle.wf_frame.specs.declared.notes.ReplyNote.TheVariants as reply
 use Rattle.wf_io.specs.Capture.{packet_octets}
 use Rattle.wf_report.specs.ListingLaw.{Sent}
 use Rattle.wf_def_world.specs.World.{World, Exchange, exchange}
@@ -14,6 +17,7 @@ use Rattle.wf_path.specs.Addresses.{made_up}
 use Rattle.wf_path.specs.Transmissions.{frames_on_air}
 use Rattle.wf_report.specs.AckFrames.{ack_frame}
 use Rattle.wf_report.specs.BlockAcks.{block_ack_frame}
+use Rattle.wf_report.specs.GroupFrames.{beacon_frame, group_frames}
 
 -- The octets of each transmission of exchange e, by index, with placeholder addresses, or none if it is not
 -- open; `bodies` has the frame of each id.
@@ -36,13 +40,23 @@ abbrev pub block_acks : ℕ → List ℕ → Bool → Option Exchange → List (
 block_acks start words wide None = []
 block_acks start words wide (Some x) = block_ack_frame x.station x.tid start (words_told wide words) wide ∷ []
 
+-- The frames that a call about group frames puts on the air, by the world after it and its answer: a beacon,
+-- or the group frame that goes on the air.
+abbrev pub frames_of_group : World → GroupReply → List (List ℕ)
+frames_of_group w (answer.Queued id) = []
+frames_of_group w (answer.Beacon count follows) = beacon_frame w ∷ []
+frames_of_group w (answer.Send id number air more) = group_frames number more w.group.flying
+frames_of_group w (answer.Done id) = []
+
 -- The frames that a call puts on the air, by the world after it and its reply: each transmission of the
--- exchange that begins, by index, or the BlockAck or the Ack of the exchange that is answered.
+-- exchange that begins, by index, or the BlockAck or the Ack of the exchange that is answered, or a beacon or
+-- a group frame.
 abbrev pub frames_by : World → (ℕ → FrameValue) → Note → ReplyNote → List (List ℕ)
 frames_by w bodies note (Send e s t air part more) = frames_sent w bodies e
 frames_by w bodies note (Ba start b0 b1 b2 b3 wide) =
     block_acks start (b0 ∷ b1 ∷ b2 ∷ b3 ∷ []) wide (option_and_then (exchange w) (exchange_answered note))
 frames_by w bodies note Ack = ack_frame ∷ []
+frames_by w bodies note (reply.Group answer) = frames_of_group w answer
 frames_by w bodies note reply = []
 
 -- The packets of these frames, all with the same time.

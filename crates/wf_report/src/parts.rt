@@ -1,9 +1,17 @@
-//! Appends hexadecimal digits to a line.
+//! Appends hexadecimal digits to a line, and gives the word for a bit.
 
 ghost use Rattle.std.specs.Prelude.{◌≡◌, ◌+◌, ◌<◌, ◌≤◌, ◌++◌, length};
-ghost use Rattle.wf_def_world.specs.Text.{hex, hex_digit as digit_of};
+ghost use Rattle.wf_def_world.specs.Text.{bit_word, hex, hex_digit as digit_of};
 
 use wf_io::Line;
+
+/// Returns the word for a bit.
+pub fn bit_word(bit: bool) -> &'static [u8]
+    ensures word { result.now ≡ bit_word bit }
+    ensures short { length result.now ≤ 1 }
+{
+    if bit { b"1" } else { b"0" }
+}
 
 fn hex_digit(value: u8) -> u8
     requires { value < 16 }

@@ -1,15 +1,17 @@
 //! Writes the answer line of an answer.
 
-ghost use Rattle.std.specs.Prelude.{◌≡◌, ◌+◌, ◌≤◌, ◌++◌, ◌∷◌, [], length, map, decimal, codes, slice_index, ◌*◌, if◌then◌else◌, true, None};
+ghost use Rattle.std.specs.Prelude.{◌≡◌, ◌+◌, ◌≤◌, ◌++◌, ◌∷◌, [], length, map, decimal, codes, slice_index, ◌*◌, true};
 ghost use Rattle.wf_io.specs.Words.{spaced};
-ghost use Rattle.wf_def_world.specs.Text.{answer_line, part_words, score_digits};
+ghost use Rattle.wf_def_world.specs.Text.{answer_line, more_words, part_words, score_digits};
 ghost use Rattle.wf_frame.specs.Answers.{part_sent, reply_of, reply_with};
 ghost use Rattle.wf_frame.specs.declared.notes.ReplyNote.TheVariants.{Accepted, Done, Reaped, Refused};
+ghost use Rattle.wf_frame.specs.declared.notes.ReplyNote.TheVariants as reply;
+ghost use Rattle.wf_frame.specs.declared.notes.GroupReply.TheVariants.{Beacon};
 ghost use Rattle.wf_frame.specs.Words.{line};
 ghost use Rattle.wf_report.specs.Replies.{is_one_word, pair_text};
 
-use crate::parts::push_hex;
-use wf_frame::{Answer, Brief, Fate, Ids, Kind, Pairs, Refusal};
+use crate::parts::{bit_word, push_hex};
+use wf_frame::{Answer, Brief, Fate, GroupReply, Ids, Kind, Pairs, Refusal};
 use wf_io::{Line, Word};
 
 // Writes the line of a refusal, with its number if it has one.
@@ -84,38 +86,27 @@ fn push_batch(out: &mut Line, pairs: &Pairs)
     }
 }
 
-// Appends the frames of an exchange, after the word for how it sends them.
-fn push_frames(out: &mut Line, kind: Kind, pairs: &Pairs)
-    requires { length out.old ≤ 190 }
-    ensures text { out.new ≡ out.old ++ spaced (part_words (part_sent None kind pairs.now)) }
-    ensures len { length out.new ≤ 7200 }
-{
-    match kind {
-        Kind::Aggregate => {
-            out.push_words(&[Word::Text(b"data")]);
-            push_pairs(out, pairs);
-        }
-        Kind::Batch => {
-            out.push_words(&[Word::Text(b"batch")]);
-            push_batch(out, pairs);
-        }
-        Kind::Plain => {
-            out.push_words(&[Word::Text(b"plain")]);
-            push_pairs(out, pairs);
-        }
-    }
-}
-
-// Appends the frames or the request of an exchange.
+// Appends the frames or the request of an exchange, after the word for how it sends them.
 fn push_part(out: &mut Line, request: Option<u16>, kind: Kind, pairs: &Pairs)
     requires { length out.old ≤ 190 }
     ensures text { out.new ≡ out.old ++ spaced (part_words (part_sent request kind pairs.now)) }
     ensures len { length out.new ≤ 7200 }
 {
-    match request {
-        None => push_frames(out, kind, pairs),
-        Some(start) => {
+    match (request, kind) {
+        (Some(start), _) => {
             out.push_words(&[Word::Text(b"bar"), Word::Number(u64::from(start))]);
+        }
+        (None, Kind::Aggregate) => {
+            out.push_words(&[Word::Text(b"data")]);
+            push_pairs(out, pairs);
+        }
+        (None, Kind::Batch) => {
+            out.push_words(&[Word::Text(b"batch")]);
+            push_batch(out, pairs);
+        }
+        (None, Kind::Plain) => {
+            out.push_words(&[Word::Text(b"plain")]);
+            push_pairs(out, pairs);
         }
     }
 }
@@ -123,13 +114,23 @@ fn push_part(out: &mut Line, request: Option<u16>, kind: Kind, pairs: &Pairs)
 // Appends `more` if the More Data bit is set, and ends the line.
 fn push_more(out: &mut Line, more: bool)
     requires { length out.old ≤ 7200 }
-    ensures { out.new ≡ out.old ++ (spaced (if more then codes "more" ∷ [] else []) ++ 10 ∷ []) }
+    ensures { out.new ≡ out.old ++ (spaced (more_words more) ++ 10 ∷ []) }
 {
     if more {
         out.push_all(b" more\n");
     } else {
         out.push(b'\n');
     }
+}
+
+// Appends the frames or the request of an exchange and the word of the More Data bit, and ends the line.
+fn push_rest(out: &mut Line, request: Option<u16>, kind: Kind, pairs: &Pairs, more: bool)
+    requires { length out.old ≤ 190 }
+    ensures { out.new ≡ out.old ++ spaced (part_words (part_sent request kind pairs.now))
+        ++ (spaced (more_words more) ++ 10 ∷ []) }
+{
+    push_part(out, request, kind, pairs);
+    push_more(out, more);
 }
 
 // Appends the bits of a wide BlockAck, offset 255 first.
@@ -256,6 +257,58 @@ fn push_ceased(out: &mut Line, dropped: u32, ids: &Ids)
     out.push(b'\n');
 }
 
+// Appends the numbers of a group frame that is sent, after its word: its id, its sequence number and its
+// airtime.
+fn push_group_frame(out: &mut Line, id: u64, number: u16, air: u32)
+    requires { out.old ≡ [] }
+    ensures text { out.new ≡ codes "gsend"
+        ++ spaced (decimal id ∷ decimal number ∷ codes "air" ∷ decimal air ∷ []) }
+    ensures len { length out.new ≤ 100 }
+{
+    out.push_all(b"gsend");
+    out.push_words(&[
+        Word::Number(id),
+        Word::Number(u64::from(number)),
+        Word::Text(b"air"),
+        Word::Number(u64::from(air)),
+    ]);
+}
+
+// Writes the line of a beacon: its DTIM count, and whether it announces group frames.
+fn push_beacon(out: &mut Line, count: u8, follows: bool)
+    requires { out.old ≡ [] }
+    ensures { out.new ≡ answer_line (reply.Group (Beacon count follows)) }
+{
+    out.push_line(
+        b"beacon",
+        &[
+            Word::Number(u64::from(count)),
+            Word::Text(bit_word(follows)),
+        ],
+    );
+}
+
+// Writes the line of an answer about group frames.
+fn push_group(out: &mut Line, answer: GroupReply)
+    requires { out.old ≡ [] }
+    ensures { out.new ≡ answer_line (reply.Group answer) }
+{
+    match answer {
+        GroupReply::Queued { id } => push_numbered(out, b"queued", id),
+        GroupReply::Beacon { count, follows } => push_beacon(out, count, follows),
+        GroupReply::Send {
+            id,
+            number,
+            air,
+            more,
+        } => {
+            push_group_frame(out, id, number, air);
+            push_more(out, more);
+        }
+        GroupReply::Done { id } => push_numbered(out, b"gdone", id),
+    }
+}
+
 // Writes the line of an answer that is one word; there is no other answer here.
 fn push_word(out: &mut Line, brief: Brief)
     requires empty { out.old ≡ [] }
@@ -299,8 +352,7 @@ pub fn print_reply(answer: &Answer, out: &mut Line)
             more,
         } => {
             push_exchange(out, exchange, station, tid, air);
-            push_part(out, request, kind, &answer.pairs);
-            push_more(out, more);
+            push_rest(out, request, kind, &answer.pairs, more);
         }
         Brief::Released => push_released(out, &answer.ids),
         Brief::Ba {
@@ -319,6 +371,7 @@ pub fn print_reply(answer: &Answer, out: &mut Line)
         Brief::Polled { class } => out.push_line(b"polled", &[Word::Text(class.word())]),
         Brief::Charged { deficit } => out.push_line(b"charged", &[Word::Signed(deficit)]),
         Brief::Reaped { id, fate } => push_reaped(out, id, fate),
+        Brief::Group(answer) => push_group(out, answer),
         Brief::Refused(refusal) => push_refusal(out, refusal),
         brief => push_word(out, brief),
     }

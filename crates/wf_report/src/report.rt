@@ -7,10 +7,10 @@ ghost use Rattle.wf_io.specs.Faults.{CountsFaults};
 ghost use Rattle.wf_def_world.specs.World.{is_live, share};
 ghost use Rattle.wf_def_world.specs.Run.{world_of};
 ghost use Rattle.wf_frame.specs.Words.{line};
-ghost use Rattle.wf_def_world.specs.Text.{summary as summary_of, tally_words, share_line, share_lines, hex};
+ghost use Rattle.wf_def_world.specs.Text.{summary as summary_of, tally_words, share_line, share_lines, group_line, hex};
 ghost use Rattle.wf_io.specs.Fronts.{HoldsFront};
 ghost use Rattle.wf_io.specs.Words.{spaced};
-ghost use Rattle.wf_report.specs.Parts.{counts_of_summary, lines_of, shares_of, map_line};
+ghost use Rattle.wf_report.specs.Parts.{counts_of_summary, lines_of, shares_of, map_line, lines_at_end, parts_of_summary};
 
 use crate::parts::push_hex;
 use crate::standing;
@@ -150,7 +150,7 @@ fn write_shares<K: Sink>(cell: &Cell, sink: &mut K) -> Result<(), Failed>
 // Appends octets as hexadecimal digits.
 fn push_octets(out: &mut Line, octets: &[u8])
     requires few { length octets.now ≤ 256 }
-    requires room { length out.old ≤ 100 }
+    requires room { length out.old ≤ 200 }
     ensures text { out.new ≡ out.old ++ concat (map (hex 2) octets.now) }
     ensures len { length out.new ≤ length out.old + 2 * length octets.now }
 {
@@ -159,10 +159,34 @@ fn push_octets(out: &mut Line, octets: &[u8])
     }
 }
 
-// Writes the line of the TIM element.
-fn push_map(cell: &Cell, out: &mut Line)
+// Writes the line of group frames, if the settings allow any.
+fn push_group(cell: &Cell, out: &mut Line)
     requires { out.old ≡ [] }
-    ensures { out.new ≡ map_line (world_of cell.now.past) }
+    ensures text { out.new ≡ group_line (world_of cell.now.past) }
+    ensures len { length out.new ≤ 150 }
+{
+    if standing::buffered(cell) == 0 {
+        return;
+    }
+    let counts = standing::group_counts(cell);
+    out.push_line(
+        b"group",
+        &[
+            Word::Number(counts.accepted),
+            Word::Text(b"sent"),
+            Word::Number(counts.sent),
+            Word::Text(b"held"),
+            Word::Number(u64::from(counts.queued) + u64::from(counts.flying)),
+            Word::Text(b"air"),
+            Word::Number(counts.air),
+        ],
+    );
+}
+
+// Appends the line of the TIM element.
+fn push_map(cell: &Cell, out: &mut Line)
+    requires { length out.old ≤ 150 }
+    ensures { out.new ≡ out.old ++ map_line (world_of cell.now.past) }
 {
     let mut octets = [0; 256];
     let count = standing::traffic(cell, &mut octets);
@@ -184,6 +208,7 @@ pub fn summary<K: Sink>(cell: &Cell, sink: &mut K) -> Result<(), Failed>
     let mut counts = Line::new();
     let mut last = Line::new();
     push_counts(cell, &mut counts);
+    push_group(cell, &mut last);
     push_map(cell, &mut last);
     write_parts(cell, &counts, &last, sink)
 }
@@ -191,12 +216,12 @@ pub fn summary<K: Sink>(cell: &Cell, sink: &mut K) -> Result<(), Failed>
 // Writes the summary, from its first and last lines.
 fn write_parts<K: Sink>(cell: &Cell, counts: &Line, last: &Line, sink: &mut K) -> Result<(), Failed>
     requires counts { counts.now ≡ counts_of_summary (world_of cell.now.past) (length cell.now.past.history) }
-    requires last { last.now ≡ map_line (world_of cell.now.past) }
+    requires last { last.now ≡ lines_at_end (world_of cell.now.past) }
     ensures written { OnOk result
         (K.held sink.new ≡ append_known (K.held sink.old)
-        (summary_of (world_of cell.now.past) (length cell.now.past.history))) }
+        (parts_of_summary (world_of cell.now.past) (length cell.now.past.history))) }
     ensures front { HoldsFront (K.held sink.old) (K.held sink.new)
-        (summary_of (world_of cell.now.past) (length cell.now.past.history)) }
+        (parts_of_summary (world_of cell.now.past) (length cell.now.past.history)) }
     ensures cause { CountsFaults (K.faults sink.old) (K.faults sink.new) result }
 {
     match write_line(sink, counts) {

@@ -6,10 +6,12 @@ ghost use Rattle.wf_frame.specs.declared.classes.Cause.TheVariants.{Overlimit, C
 ghost use Rattle.wf_frame.specs.declared.classes.Fate.TheVariants.{Held, Acked, Dropped};
 ghost use Rattle.wf_def_world.specs.World.{accepted_count, is_live, share};
 ghost use Rattle.wf_def_world.specs.Run.{world_of};
-ghost use Rattle.wf_def_world.specs.Text.{tally as tally_in, traffic_map, with_traffic};
+ghost use Rattle.wf_def_world.specs.Text.{tally as tally_in, beacon_map, with_traffic};
+ghost use Rattle.wf_send_half.specs.Group.{counts_in_state};
 
 use wf_cell::Cell;
 use wf_frame::Class;
+use wf_send_parts::group::GroupCounts;
 use wf_send_parts::stations::Tally;
 
 /// Returns the number of station numbers, 1 to 256.
@@ -17,6 +19,20 @@ pub fn stations(cell: &Cell) -> u16
     ensures { result ≡ (world_of cell.now.past).config.stations }
 {
     cell.path().config().stations as u16
+}
+
+/// Returns how many group frames may be queued: the setting `buffered`, 0 to 65535.
+pub fn buffered(cell: &Cell) -> u32
+    ensures { result ≡ (world_of cell.now.past).config.buffered }
+{
+    cell.path().config().buffered
+}
+
+/// Returns the counts of group frames.
+pub fn group_counts(cell: &Cell) -> GroupCounts
+    ensures { result ≡ counts_in_state (world_of cell.now.past).group }
+{
+    cell.path().group_counts()
 }
 
 /// Returns the number of exchanges that have begun.
@@ -79,10 +95,12 @@ pub fn received(cell: &Cell, station: u16, class: Class) -> u64
     cell.path().received(station, class)
 }
 
-/// Writes the TIM element (IEEE 802.11-2012, 8.4.2.7), and returns its number of octets.
+/// Writes the TIM element of the latest beacon (IEEE 802.11-2012, 8.4.2.7) with the stations that have
+/// traffic now, and returns its number of octets.
 pub fn traffic(cell: &Cell, out: &mut [u8; 256]) -> usize
     ensures count { result ≤ length out.new }
-    ensures octets { take result out.new ≡ traffic_map (with_traffic (world_of cell.now.past)) }
+    ensures octets { take result out.new
+        ≡ beacon_map (world_of cell.now.past) (with_traffic (world_of cell.now.past)) }
 {
     cell.path().tim(out).min(out.len())
 }

@@ -42,26 +42,32 @@ opening_read (s ∷ w ∷ n ∷ more) values is =
 
 -- ---- a rate is set
 
-width_20 : (word : List ℕ) (v : Value) → word ≡ codes "20" → read_arg (Number 20 40) word ≡ Ok v → long_in (Some v) ≡ 20
+width_20 : (word : List ℕ) (v : Value) → word ≡ codes "20" → read_arg (Number 20 40) word ≡ Ok v →
+    long_in (Some v) ≡ 20
 width_20 word v same is =
     let read : read_arg (Number 20 40) (codes "20") ≡ Ok v = ap (read_arg (Number 20 40)) (sym same) ∙ is in
     grind (arith, read)
 
-width_40 : (word : List ℕ) (v : Value) → word ≡ codes "40" → read_arg (Number 20 40) word ≡ Ok v → long_in (Some v) ≡ 40
+width_40 : (word : List ℕ) (v : Value) → word ≡ codes "40" → read_arg (Number 20 40) word ≡ Ok v →
+    long_in (Some v) ≡ 40
 width_40 word v same is =
     let read : read_arg (Number 20 40) (codes "40") ≡ Ok v = ap (read_arg (Number 20 40)) (sym same) ∙ is in
     grind (arith, read)
 
-width_read : (word : List ℕ) (v : Value) → not (bytes_eq word (codes "20") || bytes_eq word (codes "40")) ≡ false → read_arg (Number 20 40) word ≡ Ok v → (long_in (Some v) ≡ 20) ⊎ (long_in (Some v) ≡ 40)
+width_read : (word : List ℕ) (v : Value) →
+    not (bytes_eq word (codes "20") || bytes_eq word (codes "40")) ≡ false → read_arg (Number 20 40) word ≡ Ok v →
+    (long_in (Some v) ≡ 20) ⊎ (long_in (Some v) ≡ 40)
 width_read word v one is = by_first (bytes_eq word (codes "20")) refl
   where
-    by_second : (b : Bool) → bytes_eq word (codes "40") ≡ b → not (false || b) ≡ false → (long_in (Some v) ≡ 20) ⊎ (long_in (Some v) ≡ 40)
+    by_second : (b : Bool) → bytes_eq word (codes "40") ≡ b → not (false || b) ≡ false →
+        (long_in (Some v) ≡ 20) ⊎ (long_in (Some v) ≡ 40)
     by_second true eq other = inr (width_40 word v ((bytes_eq-Decides word (codes "40")).0 eq) is)
     by_second false eq other = absurd (grind (arith, other))
 
     by_first : (b : Bool) → bytes_eq word (codes "20") ≡ b → (long_in (Some v) ≡ 20) ⊎ (long_in (Some v) ≡ 40)
     by_first true eq = inl (width_20 word v ((bytes_eq-Decides word (codes "20")).0 eq) is)
-    by_first false eq = by_second (bytes_eq word (codes "40")) refl (ap (λ b. not (b || bytes_eq word (codes "40"))) (sym eq) ∙ one)
+    by_first false eq = by_second (bytes_eq word (codes "40")) refl
+        (ap (λ b. not (b || bytes_eq word (codes "40"))) (sym eq) ∙ one)
 
 rates : (values rest : List Value) (a b c : Value) → values ≡ a ∷ b ∷ c ∷ rest →
     long_in (Some a) ≤ short_most → long_in (Some b) ≤ greatest_mcs →

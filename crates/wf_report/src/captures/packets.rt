@@ -20,7 +20,8 @@ use wf_io::{Failed, Sink};
 
 /// Writes the packets of the cell's last call, from its answer, at the time of the clock in microseconds. For
 /// a pull these are all transmissions of the exchange that it began, by index, whether or not they arrive
-/// later. For an `answer` it is the BlockAck or the Ack. Other calls have no packets.
+/// later. For an `answer` it is the BlockAck or the Ack, for a `beacon` the beacon, and for a `gpull` the
+/// group frame. Other calls have no packets.
 ///
 /// After a failed write the sink holds a prefix of the packets. The frames of the cell must be those of a
 /// trace's calls.

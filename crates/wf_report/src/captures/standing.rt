@@ -2,6 +2,7 @@
 
 ghost use Rattle.std.specs.Prelude.{◌≡◌, ◌<◌, ℕ, Some, option_map, IfSome};
 ghost use Rattle.wf_cell.specs.Cells.{with_entry};
+ghost use Rattle.wf_send_parts.specs.Group.{world_frame};
 ghost use Rattle.wf_frame.specs.declared.notes.Note.{Note as Call};
 ghost use Rattle.wf_path.specs.Transmissions.{sent_of};
 ghost use Rattle.wf_def_world.specs.Run.{Past, by};
@@ -11,6 +12,7 @@ ghost use Rattle.wf_report.specs.Samples.{world_behind};
 use wf_cell::Cell;
 use wf_frame::Note;
 use wf_path::Sent;
+use wf_send_parts::group::GroupFrame;
 
 /// Returns the station, the TID and the transmissions of an open exchange.
 pub(crate) fn sent(cell: &Cell, exchange: u64) -> Option<Sent>
@@ -18,6 +20,20 @@ pub(crate) fn sent(cell: &Cell, exchange: u64) -> Option<Sent>
     ensures tid { IfSome result (λ sent. sent.tid < 8) }
 {
     cell.path().sent(exchange)
+}
+
+/// Returns the group frame that is on the air, if there is one.
+pub(crate) fn flying(cell: &Cell) -> Option<GroupFrame>
+    ensures { option_map world_frame result ≡ (world_behind cell.now).group.flying }
+{
+    cell.path().group_frame()
+}
+
+/// Returns how many sequence numbers beacons and group frames have taken.
+pub(crate) fn numbers(cell: &Cell) -> u64
+    ensures { result ≡ (world_behind cell.now).group.number }
+{
+    cell.path().group_counts().numbers
 }
 
 /// Returns the call that was made last.

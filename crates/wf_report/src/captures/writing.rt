@@ -8,13 +8,15 @@ ghost use Rattle.wf_io.specs.Fronts.{HoldsFront};
 ghost use Rattle.wf_def_world.specs.World.{exchange as exchange_in};
 ghost use Rattle.wf_report.specs.AckFrames.{ack_frame};
 ghost use Rattle.wf_report.specs.Captures.{samples};
-ghost use Rattle.wf_report.specs.Packets.{frames_sent, block_acks, exchange_answered, frames_by, packets_at, octets_of_packets};
+ghost use Rattle.wf_report.specs.GroupFrames.{beacon_frame, group_frames};
+ghost use Rattle.wf_report.specs.Packets.{frames_sent, block_acks, exchange_answered, frames_of_group, frames_by, packets_at, octets_of_packets};
 ghost use Rattle.wf_report.specs.Samples.{IsSampled, world_behind};
 
 use crate::captures::frames::{Shown, ack, narrow_ack, transmission, wide_ack};
-use crate::captures::standing::sent;
+use crate::captures::group::{GREATEST_BEACON, beacon, group_frame};
+use crate::captures::standing::{flying, sent};
 use wf_cell::Cell;
-use wf_frame::{Answer, Ask, Brief, Note};
+use wf_frame::{Answer, Ask, Brief, GroupReply, Note};
 use wf_io::pcap::write_packet;
 use wf_io::{Failed, Sink};
 use wf_octets::header::{DATA_HEADER_OCTETS, GREATEST_MPDU};
@@ -95,6 +97,62 @@ fn write_ack<K: Sink>(cell: &Cell, sink: &mut K) -> Result<(), Failed>
     write_packet(sink, cell.clock(), &octets[..len])
 }
 
+/// Writes a packet for the beacon that the last call sent.
+fn write_beacon<K: Sink>(cell: &Cell, sink: &mut K) -> Result<(), Failed>
+    ensures written { OnOk result (K.held sink.new ≡ append_known (K.held sink.old)
+        (octets_of_packets (packets_at (world_behind cell.now).clock
+        (beacon_frame (world_behind cell.now) ∷ [])))) }
+    ensures front { HoldsFront (K.held sink.old) (K.held sink.new)
+        (octets_of_packets (packets_at (world_behind cell.now).clock
+        (beacon_frame (world_behind cell.now) ∷ []))) }
+    ensures cause { CountsFaults (K.faults sink.old) (K.faults sink.new) result }
+{
+    let mut octets = [0; GREATEST_BEACON];
+    let len = beacon(cell, &mut octets);
+    write_packet(sink, cell.clock(), &octets[..len])
+}
+
+/// Writes a packet for the group frame that is on the air, with this sequence number and this More Data bit,
+/// or nothing if there is none.
+fn write_group_frame<K: Sink>(
+    cell: &Cell,
+    number: u16,
+    more: bool,
+    sink: &mut K,
+) -> Result<(), Failed>
+    ensures written { OnOk result (K.held sink.new ≡ append_known (K.held sink.old)
+        (octets_of_packets (packets_at (world_behind cell.now).clock
+        (group_frames number more (world_behind cell.now).group.flying)))) }
+    ensures front { HoldsFront (K.held sink.old) (K.held sink.new)
+        (octets_of_packets (packets_at (world_behind cell.now).clock
+        (group_frames number more (world_behind cell.now).group.flying))) }
+    ensures cause { CountsFaults (K.faults sink.old) (K.faults sink.new) result }
+{
+    let Some(frame) = flying(cell) else {
+        return Ok(());
+    };
+    let mut octets = [0; GREATEST_MPDU];
+    let len = group_frame(number, more, frame.len, &mut octets);
+    write_packet(sink, cell.clock(), &octets[..len])
+}
+
+/// Writes the packets of a call about group frames, from its answer and the cell after it.
+fn write_group<K: Sink>(cell: &Cell, answer: GroupReply, sink: &mut K) -> Result<(), Failed>
+    ensures written { OnOk result (K.held sink.new ≡ append_known (K.held sink.old)
+        (octets_of_packets (packets_at (world_behind cell.now).clock
+        (frames_of_group (world_behind cell.now) answer)))) }
+    ensures front { HoldsFront (K.held sink.old) (K.held sink.new)
+        (octets_of_packets (packets_at (world_behind cell.now).clock
+        (frames_of_group (world_behind cell.now) answer))) }
+    ensures cause { CountsFaults (K.faults sink.old) (K.faults sink.new) result }
+{
+    match answer {
+        GroupReply::Beacon { .. } => write_beacon(cell, sink),
+        GroupReply::Send { number, more, .. } => write_group_frame(cell, number, more, sink),
+        GroupReply::Queued { .. } | GroupReply::Done { .. } => Ok(()),
+    }
+}
+
 /// Writes the packets of a call, from its answer and the cell after it.
 pub(crate) fn write_frames<K: Sink>(
     cell: &Cell,
@@ -136,6 +194,7 @@ pub(crate) fn write_frames<K: Sink>(
             }
         },
         Brief::Ack => write_ack(cell, sink),
+        Brief::Group(answer) => write_group(cell, answer, sink),
         _ => Ok(()),
     }
 }

@@ -8,7 +8,7 @@ use Rattle.wf_report.proofs.reply.print_reply.Goals as goal
 
 pub returns-in-Send : goal.returns-in-Send
 returns-in-Send c =
-    rw (c.in-Send.is, c.push_more.ensures, c.push_part.ensures.text, c.push_exchange.ensures.text)
+    rw (c.in-Send.is, c.push_rest.ensures, c.push_exchange.ensures.text)
     (line_of_three (codes "send")
     (decimal c.in-Send.exchange ∷ codes "sta" ∷ decimal c.in-Send.station
     ∷ codes "tid" ∷ decimal c.in-Send.tid ∷ codes "air" ∷ decimal c.in-Send.air ∷ [])

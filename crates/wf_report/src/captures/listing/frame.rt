@@ -8,20 +8,59 @@ ghost use Rattle.wf_octets.specs.BlockLayout.{IsBar, IsBlockAck, IsWideBa};
 ghost use Rattle.wf_octets.specs.declared.block.frames.Bar.{Bar};
 ghost use Rattle.wf_octets.specs.declared.block.frames.Ba.{Ba};
 ghost use Rattle.wf_octets.specs.declared.block.frames.WideBa.{WideBa};
-ghost use Rattle.wf_report.specs.Frames.{frame_listed, block_in};
+ghost use Rattle.wf_report.specs.Frames.{frame_listed, block_in, other_in, beacon_in, tim_behind, tim_of};
 
 use wf_octets::block::{decode_ba, decode_bar, decode_wide};
-use wf_octets::header::{Kind, decode};
+use wf_octets::fields::{is_set, number_at};
+use wf_octets::header::{GROUP_HEADER_OCTETS, Kind, decode};
+use wf_octets::tim::Tim;
+
+/// The first octet of a beacon.
+const BEACON: u8 = 0x80;
+
+/// The first octet of Data without QoS.
+const DATA: u8 = 0x08;
+
+/// The offset of Sequence Control.
+const SEQUENCE_AT: usize = 22;
+
+/// The offset of the elements of a beacon: its header has 24 octets and its fixed fields have 12 (IEEE
+/// 802.11-2012, 8.3.3.2).
+const ELEMENTS_AT: usize = 36;
+
+/// The number of a TIM element (8.4.2.7).
+const TIM: u8 = 5;
 
 /// The kind of a frame, and its fields that are listed.
 #[derive(Clone, Copy)]
 pub enum Frame {
     /// QoS Data, with its TID and its sequence number.
-    Data { tid: u8, seq: u16 },
+    Data {
+        tid: u8,
+        seq: u16,
+    },
     /// A BlockAckReq, with its TID and the first number of the window.
-    Bar { tid: u8, start: u16 },
+    Bar {
+        tid: u8,
+        start: u16,
+    },
     /// A BlockAck of 64 or of 256 numbers, with its TID and its first number.
-    Ba { tid: u8, start: u16 },
+    Ba {
+        tid: u8,
+        start: u16,
+    },
+    /// A beacon, with its sequence number, and the DTIM count, the DTIM period and the bit for group frames
+    /// of its first TIM element.
+    Beacon {
+        seq: u16,
+        count: u8,
+        period: u8,
+        group: bool,
+    },
+    /// Data without QoS to a group of stations, with its sequence number.
+    Group {
+        seq: u16,
+    },
     /// Other octets.
     Other,
 }
@@ -46,7 +85,7 @@ pub fn frame_of(octets: &[u8]) -> Frame
     block_of(octets)
 }
 
-// Returns the BlockAckReq or BlockAck that the octets encode, or `Other`.
+// Returns the BlockAckReq or BlockAck that the octets encode, or another frame.
 fn block_of(octets: &[u8]) -> Frame
     ensures { result ≡ block_in octets.now }
 {
@@ -67,6 +106,71 @@ fn block_of(octets: &[u8]) -> Frame
             tid: ba.tid,
             start: ba.start.raw(),
         },
-        Err(_) => Frame::Other,
+        Err(_) => other(octets),
+    }
+}
+
+// Returns the beacon or the group frame that the octets encode, or `Other`.
+fn other(octets: &[u8]) -> Frame
+    ensures { result ≡ other_in octets.now }
+{
+    if octets.len() < GROUP_HEADER_OCTETS {
+        return Frame::Other;
+    }
+    let seq = number_at(octets, SEQUENCE_AT) / 16;
+    match octets[0] {
+        BEACON => beacon(octets, seq),
+        DATA if is_set(octets[4], 0) => Frame::Group { seq },
+        _ => Frame::Other,
+    }
+}
+
+// Returns the beacon with this sequence number that the octets encode, or `Other` if it has no TIM element.
+fn beacon(octets: &[u8], seq: u16) -> Frame
+    ensures { result ≡ beacon_in seq octets.now }
+{
+    if octets.len() < ELEMENTS_AT {
+        return Frame::Other;
+    }
+    match tim_among(&octets[ELEMENTS_AT..]) {
+        Some(tim) => Frame::Beacon {
+            seq,
+            count: tim.count,
+            period: tim.period,
+            group: tim.group,
+        },
+        None => Frame::Other,
+    }
+}
+
+// Returns the fields of the first TIM element among elements, if there is one and it is complete.
+fn tim_among(elements: &[u8]) -> Option<Tim>
+    ensures { result ≡ tim_behind 0 elements.now }
+{
+    let mut place = 0;
+    while place + 2 <= elements.len() {
+        let end = place + 2 + usize::from(elements[place + 1]);
+        if elements.len() < end {
+            return None;
+        }
+        if elements[place] == TIM {
+            return tim_of(&elements[place + 2..end]);
+        }
+        place = end;
+    }
+    None
+}
+
+// Returns the fields of the TIM element with this body, if it is complete.
+fn tim_of(body: &[u8]) -> Option<Tim>
+    ensures { result ≡ tim_of body.now }
+{
+    match body {
+        [count, period, control, _, ..] => Some(Tim {
+            count: *count,
+            period: *period,
+            group: is_set(*control, 0),
+        }),
+        _ => None,
     }
 }

@@ -4,10 +4,12 @@ ghost use Rattle.std.specs.Prelude.{◌≡◌, ◌+◌, ◌≤◌, ◌∷◌, �
 ghost use Rattle.std.specs.Io.KnownBytes.{append_known};
 ghost use Rattle.wf_io.specs.Faults.{CountsFaults};
 ghost use Rattle.wf_io.specs.Words.{spaced};
+ghost use Rattle.wf_report.specs.declared.captures.listing.frame.Frame.TheVariants.{Beacon};
 ghost use Rattle.wf_report.specs.ListingLines.{frame_words, packet_line, capture_fault_line, count_line};
 
 use crate::captures::listing::fault::Fault;
 use crate::captures::listing::frame::{Frame, frame_of};
+use crate::parts::bit_word;
 use wf_io::pcap::Packet;
 use wf_io::{Failed, Line, Sink, Word, write_all};
 
@@ -21,6 +23,19 @@ fn push_frame(frame: Frame, out: &mut Line)
         Frame::Data { tid, seq } => push_numbered(b"data", tid, b"seq", seq, out),
         Frame::Bar { tid, start } => push_numbered(b"bar", tid, b"start", start, out),
         Frame::Ba { tid, start } => push_numbered(b"ba", tid, b"start", start, out),
+        Frame::Beacon {
+            seq,
+            count,
+            period,
+            group,
+        } => push_beacon(seq, count, period, group, out),
+        Frame::Group { seq } => {
+            out.push_words(&[
+                Word::Text(b"group"),
+                Word::Text(b"seq"),
+                Word::Number(u64::from(seq)),
+            ]);
+        }
         Frame::Other => out.push_words(&[Word::Text(b"other")]),
     }
 }
@@ -40,6 +55,25 @@ fn push_numbered(kind: &'static [u8], tid: u8, name: &'static [u8], number: u16,
         Word::Number(u64::from(tid)),
         Word::Text(name),
         Word::Number(u64::from(number)),
+    ]);
+}
+
+// Appends the words of a beacon.
+fn push_beacon(seq: u16, count: u8, period: u8, group: bool, out: &mut Line)
+    requires { length out.old ≤ 1000 }
+    ensures text { out.new ≡ out.old ++ spaced (frame_words (Beacon seq count period group)) }
+    ensures len { length out.new ≤ length out.old + 100 }
+{
+    out.push_words(&[
+        Word::Text(b"beacon"),
+        Word::Text(b"seq"),
+        Word::Number(u64::from(seq)),
+        Word::Text(b"count"),
+        Word::Number(u64::from(count)),
+        Word::Text(b"period"),
+        Word::Number(u64::from(period)),
+        Word::Text(b"group"),
+        Word::Text(bit_word(group)),
     ]);
 }
 

@@ -30,3 +30,24 @@ returns-in-Send-clause-front g c =
     c.args.answer.now.ids)))) c.in-Send.is in
     subst (HoldsFront (g.K.Sink.held c.args.sink.now) (g.K.Sink.held c.write_sent.new.sink))
     (sym same) c.write_sent.ensures.front
+
+pub returns-in-Group-clause-written : goal.returns-in-Group-clause-written
+returns-in-Group-clause-written g c =
+    let w : World = world_behind c.args.cell.now in
+    let same =
+    ap (λ (b : Brief). octets_of_packets (packets_at w.clock
+    (frames_by w (samples w) c.args.note.now (reply_with b c.args.answer.now.pairs
+    c.args.answer.now.ids)))) c.in-Group.is in
+    on_ok c.write_group.result
+    (λ wrote. wrote ∙ ap (append_known (g.K.Sink.held c.args.sink.now)) (sym same))
+    c.write_group.ensures.written
+
+pub returns-in-Group-clause-front : goal.returns-in-Group-clause-front
+returns-in-Group-clause-front g c =
+    let w : World = world_behind c.args.cell.now in
+    let same =
+    ap (λ (b : Brief). octets_of_packets (packets_at w.clock
+    (frames_by w (samples w) c.args.note.now (reply_with b c.args.answer.now.pairs
+    c.args.answer.now.ids)))) c.in-Group.is in
+    subst (HoldsFront (g.K.Sink.held c.args.sink.now) (g.K.Sink.held c.write_group.new.sink))
+    (sym same) c.write_group.ensures.front

@@ -1,0 +1,34 @@
+-- Proves which octets the header of a group frame has, and which packets a call about group frames has.
+use Rattle.std.proofs.Common.{◌≡◌, refl, ap, sym, ◌∙◌, ℕ, Bool, List, [], Option, Some, None, append-nil}
+use Rattle.wf_frame.specs.Frames.{made_up_source}
+use Rattle.wf_io.specs.Capture.{packet_octets}
+use Rattle.wf_octets.specs.Addresses.{base}
+use Rattle.wf_octets.specs.GroupLayout.{group_octets}
+use Rattle.wf_octets.specs.declared.header.group.GroupHeader.{GroupHeader}
+use Rattle.wf_def_world.specs.Group.{GroupFrame}
+use Rattle.wf_send_parts.specs.Window.{on_air}
+use Rattle.wf_send_half.specs.Group.{everyone}
+use Rattle.wf_report.specs.GroupFrames.{group_header, group_frame, group_frames}
+use Rattle.wf_report.specs.Packets.{packets_at, octets_of_packets}
+
+-- The fields that are written are those of the definition.
+pub header_is : (number : ℕ) (more : Bool) (bss source : List ℕ) (seq : ℕ) → bss ≡ base →
+    source ≡ made_up_source → seq ≡ on_air number →
+    (let h : GroupHeader = record { more = more; group = everyone; bss = bss; source = source; seq = seq } in
+    group_octets h) ≡ group_octets (group_header number more)
+header_is number more bss source seq to from same = rw (to, from, same) refl
+
+-- The group frame that is on the air has one packet.
+pub group_one : (at number : ℕ) (more : Bool) (flying : Option GroupFrame) (x : GroupFrame) →
+    Some x ≡ flying →
+    octets_of_packets (packets_at at (group_frames number more flying))
+    ≡ packet_octets at (group_frame number more x.len)
+group_one at number more flying x is =
+    ap (λ o. octets_of_packets (packets_at at (group_frames number more o))) (sym is)
+    ∙ append-nil (packet_octets at (group_frame number more x.len))
+
+-- If there is none, there is no packet.
+pub group_none : (at number : ℕ) (more : Bool) (flying : Option GroupFrame) → None ≡ flying →
+    octets_of_packets (packets_at at (group_frames number more flying)) ≡ []
+group_none at number more flying is =
+    ap (λ o. octets_of_packets (packets_at at (group_frames number more o))) (sym is)
