@@ -43,10 +43,12 @@
  * pack structs.
  *
  * Units. Times are in microseconds. Station numbers are 0 to `stations` - 1, and TIDs 0 to 7. The counts of a
- * path must stay below 2^62: the clock, the exchanges, the accepted frames, and each live station's airtime
- * in each class (wf_path_now, wf_path_exchanges, wf_path_tally, wf_path_share). wf_path_has_small_counts says
- * whether they are. Before wf_path_burst they must be below 2^61, and a burst has fewer than 2^32 calls. This
- * does not apply to cells.
+ * path must stay below 2^62: the clock, the exchanges, the accepted frames, each live station's airtime in
+ * each class, the accepted group frames, 131,072 times the group frames that were sent, and the sequence
+ * numbers of group frames and beacons (wf_path_now, wf_path_exchanges, wf_path_tally, wf_path_share,
+ * wf_path_group_counts).
+ * wf_path_has_small_counts says whether they are. Before wf_path_burst they must be below 2^61, and a burst
+ * has fewer than 2^32 calls. This does not apply to cells.
  *
  * Breaches. A handle that is never freed leaks what it holds. Every other breach is undefined behaviour:
  * - to use a handle while it is empty, except to make or free it, or to use a handle and a copy of it;
@@ -99,7 +101,7 @@ extern "C" {
 /* The values that functions of type int32_t return, except wf_path_live, wf_path_can_pull, wf_path_listed and
  * wf_path_has_small_counts. 0 means success. Any other code says why nothing has changed: neither what the
  * handle holds, nor the caller's structs and buffers. There are these exceptions:
- * - `reply` shows the refusal, if the code is 1 to 39, unless the comment of the function says that it is
+ * - `reply` shows the refusal, if the code is 1 to 41, unless the comment of the function says that it is
  *   unchanged;
  * - after a code of wf_path_burst or wf_cell_burst the first `made` calls are made;
  * - WF_FULL, WF_AHEAD and WF_IDLE set the count of `frames` of wf_path_pull and wf_path_pull_limited to 0;
@@ -137,11 +139,11 @@ enum wf_code {
   WF_SLEEPING = 16,     /* the station sleeps, and `count` frames of the class are queued for it:
                          * `sleeping` or more */
   WF_FULL = 17,         /* `count` exchanges of the class are open: as many as `inflight` */
-  WF_IDLE = 18,         /* no station of the class is ready; the only refusal after which
-                         * something may have changed */
+  WF_IDLE = 18,         /* `pull`: no station of the class is ready; after this refusal alone
+                         * something may have changed. `gpull`: no group frame may go now */
   WF_ANSWERED = 19,     /* the exchange was answered already */
   WF_ARRIVED = 20,      /* that transmission arrived already */
-  WF_NOTHING = 21,      /* there is nothing to answer, to send or to reap */
+  WF_NOTHING = 21,      /* there is nothing to answer, to send, to reap or to end */
   WF_ASLEEP = 22,       /* the station is asleep already */
   WF_AWAKE = 23,        /* the station is awake */
   WF_POLLED = 24,       /* the station has a credit that is not spent yet */
@@ -165,29 +167,32 @@ enum wf_code {
   WF_WAITS = 38,        /* `count` sequence numbers of the TID wait to be sent */
   WF_LEGACY = 39,       /* the rate of the station is one of OFDM or DSSS, at which it has no
                          * agreement */
+  WF_BUFFERED = 40,     /* `count` group frames are queued: as many as `buffered` */
+  WF_FLYING = 41,       /* a group frame is on the air */
   /* end refusals */
   /* other codes */
-  WF_NO_MEMORY = 40,    /* out of memory */
-  WF_BAD_LENGTH = 41,   /* the body is empty, or longer than WF_GREATEST_BODY */
-  WF_SMALL_BUFFER = 42, /* the buffer is too small */
-  WF_BAD_CALL = 43,     /* no call, a rate of no format, a class above 3, or a call that the
-                         * function does not make */
-  WF_BAD_ADDRESS = 44,  /* the address is a group address: the lowest bit of its first octet is set */
-  WF_NO_BODY = 45,      /* the frame has no octets: write its header (wf_path_header), and send the
+  WF_NO_MEMORY = 60,    /* out of memory */
+  WF_BAD_LENGTH = 61,   /* the body is empty, or longer than WF_GREATEST_BODY */
+  WF_SMALL_BUFFER = 62, /* the buffer is too small */
+  WF_BAD_CALL = 63,     /* no call, a rate of no format, a class above 3, a group frame without octets
+                         * or longer than WF_GREATEST_BODY, or a call that the function does not make */
+  WF_BAD_ADDRESS = 64,  /* the address is a group address: the lowest bit of its first octet is set;
+                         * wf_path_group: it is none */
+  WF_NO_BODY = 65,      /* the frame has no octets: write its header (wf_path_header), and send the
                          * body from its owner's buffer */
-  WF_BAD_AID = 46,      /* the association identifier is 0 or above 2007 */
-  WF_BAD_CLASS = 47,    /* the class is above 3 */
-  WF_BAD_OUTCOME = 48,  /* an outcome is above 3 (enum wf_outcome) */
-  WF_IN_USE = 49,       /* the handle holds something already */
+  WF_BAD_AID = 66,      /* the association identifier is 0 or above 2007 */
+  WF_BAD_CLASS = 67,    /* the class is above 3 */
+  WF_BAD_OUTCOME = 68,  /* an outcome is above 3 (enum wf_outcome) */
+  WF_IN_USE = 69,       /* the handle holds something already */
   /* why octets are not a BlockAck to the exchange */
-  WF_BLOCK_LENGTH = 51, /* not 28 octets, nor, if the window is above 64, 52 */
-  WF_BLOCK_KIND = 52,   /* not a BlockAck */
-  WF_BLOCK_BASIC = 53,  /* not compressed */
-  WF_BLOCK_MULTI = 54,  /* for several TIDs */
-  WF_BLOCK_FRAGMENT = 55, /* its fragment number is not 0, or, of 52 octets, not 4 */
-  WF_BLOCK_NARROW = 56, /* of 52 octets, and its fragment number is 0, that of 64 bits */
-  WF_NOT_MINE = 57,     /* not to the access point, or not from the exchange's station */
-  WF_WRONG_TID = 58,    /* for another TID */
+  WF_BLOCK_LENGTH = 71, /* not 28 octets, nor, if the window is above 64, 52 */
+  WF_BLOCK_KIND = 72,   /* not a BlockAck */
+  WF_BLOCK_BASIC = 73,  /* not compressed */
+  WF_BLOCK_MULTI = 74,  /* for several TIDs */
+  WF_BLOCK_FRAGMENT = 75, /* its fragment number is not 0, or, of 52 octets, not 4 */
+  WF_BLOCK_NARROW = 76, /* of 52 octets, and its fragment number is 0, that of 64 bits */
+  WF_NOT_MINE = 77,     /* not to the access point, or not from the exchange's station */
+  WF_WRONG_TID = 78,    /* for another TID */
   /* wf_path_make, wf_cell_make: 100 plus the place, counted from 1, of the first setting that is out of its
    * range, or of the first reserved number that is not 0; their places follow those of the settings, up to
    * 32 */
@@ -249,16 +254,22 @@ enum wf_kind {
   WF_KIND_HELD = 20,     /* start: the number with which an agreement may begin */
   WF_KIND_BEGUN = 21,    /* the agreement has begun */
   WF_KIND_FREED = 22,    /* the TID sends its frames one at a time */
-  WF_KIND_CEASED = 23    /* count: the number of frames that were dropped; from a cell
+  WF_KIND_CEASED = 23,   /* count: the number of frames that were dropped; from a cell
                           * wf_cell_released writes the frames that the station passed up */
+  WF_KIND_QUEUED = 24,   /* id: the group frame that was accepted */
+  WF_KIND_BEACON = 25,   /* count: the DTIM count; more: 1 if the beacon announces group frames */
+  WF_KIND_GSEND = 26,    /* id, start, air, more: the group frame to send, and its sequence number */
+  WF_KIND_GDONE = 27     /* id: the group frame that was sent */
 };
 
 /* The calls of a cell, each with the fields of `struct wf_call` that have a meaning. The other fields are 0
  * in an entry that is read, and are ignored in a call that is made. A call has the number of its answer,
  * except that WF_CALL_AMPDU and WF_CALL_WEIGHT are answered with WF_KIND_SET, WF_CALL_GIVEUP with
  * WF_KIND_MARKED, WF_CALL_FLUSH with WF_KIND_FLUSHED, WF_CALL_OFFLOAD and WF_CALL_PLAIN with WF_KIND_JOINED,
- * WF_CALL_HOLD with WF_KIND_HELD, WF_CALL_BEGIN with WF_KIND_BEGUN, WF_CALL_FREE with WF_KIND_FREED, and
- * WF_CALL_CEASE with WF_KIND_CEASED. WF_CALL_ANSWER of a plain exchange is answered with WF_KIND_ACK. */
+ * WF_CALL_HOLD with WF_KIND_HELD, WF_CALL_BEGIN with WF_KIND_BEGUN, WF_CALL_FREE with WF_KIND_FREED,
+ * WF_CALL_CEASE with WF_KIND_CEASED, WF_CALL_GROUP with WF_KIND_QUEUED, WF_CALL_BEACON with WF_KIND_BEACON,
+ * WF_CALL_GPULL with WF_KIND_GSEND, and WF_CALL_GDONE with WF_KIND_GDONE. WF_CALL_ANSWER of a plain exchange
+ * is answered with WF_KIND_ACK. */
 enum wf_call_kind {
   /* begin calls: tools/tables writes these lines; the comments stay */
   WF_CALL_JOIN = 0,     /* station, window, start, exponent, weight */
@@ -288,14 +299,20 @@ enum wf_call_kind {
   WF_CALL_HOLD = 23,    /* station, tid */
   WF_CALL_BEGIN = 24,   /* station, tid, window */
   WF_CALL_FREE = 25,    /* station, tid */
-  WF_CALL_CEASE = 26    /* station, tid */
+  WF_CALL_CEASE = 26,   /* station, tid */
+  WF_CALL_GROUP = 27,   /* length: 1 to WF_GREATEST_BODY */
+  WF_CALL_BEACON = 28,  /* none */
+  WF_CALL_GPULL = 29,   /* none */
+  WF_CALL_GDONE = 30    /* none */
   /* end calls */
 };
 
-/* Sizes in octets: the longest body of a frame, the longest transmission, and the header of a data frame. */
+/* Sizes in octets: the longest body of a frame, the longest transmission, and the headers of a data frame and
+ * of a group frame. */
 #define WF_GREATEST_BODY 2304
 #define WF_GREATEST_MPDU 2330
 #define WF_HEADER 26
+#define WF_GROUP_HEADER 24
 
 /* The size of a buffer for a name, in octets. */
 #define WF_NAME 16
@@ -347,34 +364,39 @@ struct wf_settings {
                           * in the credit's class [0..1] */
   uint32_t legacy;       /* which rates a station may have: HT, VHT and HE; with 1 also OFDM;
                           * with 2 also OFDM and DSSS [0..2] */
-  uint32_t reserved[7];  /* for later settings: each has to be 0 */
+  uint32_t period;       /* DTIM period: the number of beacons from one DTIM beacon to the next;
+                          * 0 means 1 [0..255] */
+  uint32_t buffered;     /* group frames that may be queued; with 0 none is accepted [0..65535] */
+  uint32_t reserved[5];  /* for later settings: each has to be 0 */
   /* end settings */
 };
 
 /* The answer to a call. `kind` says which of the other fields have a meaning (enum wf_kind). */
 struct wf_reply {
   uint64_t exchange;    /* the exchange to send */
-  uint64_t id;          /* the frame that was accepted or reaped; ids count from 0 */
+  uint64_t id;          /* the frame that was accepted or reaped, or the group frame; ids count from 0 */
   uint64_t dropped;     /* the frame that was dropped because the flow queues were full */
   uint64_t now;         /* the clock */
   int64_t deficit;      /* the deficit after the charge; after WF_DEBT the one that stays */
-  uint32_t air;         /* the airtime of the exchange; after WF_AHEAD the airtime in flight */
-  uint32_t count;       /* frames that a leave, a flush or the end of an agreement dropped, or the `count`
-                         * of a refusal */
+  uint32_t air;         /* the airtime of the exchange or of the group frame; after WF_AHEAD the airtime in
+                         * flight */
+  uint32_t count;       /* frames that a leave, a flush or the end of an agreement dropped, the DTIM count, or
+                         * the `count` of a refusal */
   uint16_t station;     /* the station to send to */
-  uint16_t start;       /* the start of the BlockAckReq, or the number with which an agreement may begin:
-                         * 0 to 4095 */
+  uint16_t start;       /* the start of the BlockAckReq, the number with which an agreement may begin, or
+                         * the sequence number of the group frame: 0 to 4095 */
   uint16_t acked;       /* frames of the exchange that are acknowledged */
   uint16_t waiting;     /* frames of the exchange that wait to be sent again */
   uint16_t failed;      /* frames of the exchange that are dropped */
   uint8_t kind;         /* enum wf_kind */
-  uint8_t refusal;      /* enum wf_code, 0 to 39: what the function returned */
+  uint8_t refusal;      /* enum wf_code, 0 to 41: what the function returned */
   uint8_t tid;          /* the TID to send for */
   uint8_t class_;       /* enum wf_class: the class of the credit */
   uint8_t fate;         /* enum wf_fate */
   uint8_t has_dropped;  /* 1 if `dropped` is set, else 0 */
   uint8_t request;      /* 1 if the exchange is a BlockAckReq, else 0 */
-  uint8_t more;         /* 1 if the station has more to be sent (the More Data bit), else 0 */
+  uint8_t more;         /* 1 if the station has more to be sent, or another group frame follows (the More
+                         * Data bit), or the beacon announces group frames; else 0 */
   uint8_t batch;        /* 1 if the frames are for a device that numbers them (wf_path_join_offload), else 0 */
   uint8_t plain;        /* 1 if the exchange is one frame without an agreement, which an Ack answers
                          * (wf_path_plain), else 0 */
@@ -432,6 +454,24 @@ struct wf_taken {
   uint8_t bare;      /* 1 if its octets stayed with its owner (wf_path_enqueue_bare), else 0 */
 };
 
+/* A group frame: a data frame to a group address. Its octets stay with its owner. */
+struct wf_group {
+  uint64_t id;       /* ids of group frames count from 0, apart from those of other frames */
+  uint64_t tag;      /* identifies it to its owner; the library does not use it */
+  uint16_t length;   /* the number of its octets: 1 to WF_GREATEST_BODY */
+  uint8_t to[6];     /* the group address */
+};
+
+/* How many group frames were accepted, and what became of them: accepted = sent + queued + flying. */
+struct wf_group_counts {
+  uint64_t accepted;
+  uint64_t sent;
+  uint64_t air;      /* the airtime of those that were sent, in microseconds */
+  uint64_t numbers;  /* sequence numbers: one for each beacon, and one for each group frame that went on the air */
+  uint32_t queued;   /* those that wait, at most `buffered` */
+  uint32_t flying;   /* 1 if one is on the air, else 0 */
+};
+
 /* How many frames were accepted, and how many of them have each fate. The others are held. */
 struct wf_tally {
   uint64_t accepted;
@@ -459,6 +499,9 @@ struct wf_codel {
   uint32_t drop_count; /* the number of drops by which the control law computes this time: 1 when dropping
                         * begins, or more if it ended shortly before; each further drop adds 1 */
   uint32_t dropping;   /* 1 if pulls drop frames at the times of the control law, else 0 */
+  uint64_t dropped;    /* the number of frames that CoDel dropped from the queue since the path was made, of
+                        * all stations that used the queue; at most 4,294,967,295. Frames dropped for another
+                        * cause, such as the limit, do not count */
 };
 
 /* The formats of rates. A call with any other `form` is WF_BAD_CALL. */
@@ -540,7 +583,7 @@ void wf_kind_name(int32_t kind, char name[WF_NAME]);
  * word for any other number is "?". */
 void wf_fate_name(int32_t fate, char name[WF_NAME]);
 
-/* Writes the word for a setting, as in a trace, by its place in struct wf_settings, 1 to 25; the rest of
+/* Writes the word for a setting, as in a trace, by its place in struct wf_settings, 1 to 27; the rest of
  * `name`, at least one octet, is 0. The word for any other number is "?". */
 void wf_setting_name(int32_t place, char name[WF_NAME]);
 
@@ -614,8 +657,8 @@ int32_t wf_path_join(struct wf_path *path, uint16_t station, uint16_t window, ui
 /* Makes a station live whose device numbers, aggregates and repeats its frames: its A-MPDU length exponent (0
  * to 3) and its weight (1 to 16). Each exchange to it is a batch, never a BlockAckReq, and ends by
  * wf_path_done_each, since the device numbers its frames. A frame of it that went on the air and was not
- * acknowledged is dropped as WF_RETRIES, because the device has repeated it. Of each TID at most 256 frames
- * are in the device. Returns WF_OK, WF_BAD_STATION, WF_BAD_EXPONENT, WF_BAD_WEIGHT or WF_LIVE. */
+ * acknowledged is dropped as WF_RETRIES, because the device has repeated it. The device has at most 256
+ * frames of each TID. Returns WF_OK, WF_BAD_STATION, WF_BAD_EXPONENT, WF_BAD_WEIGHT or WF_LIVE. */
 int32_t wf_path_join_offload(struct wf_path *path, uint16_t station, uint8_t exponent, uint8_t weight, struct wf_reply *reply);
 
 /* Makes a station live without agreements: its first sequence number (0 to 4095), its A-MPDU length exponent (0
@@ -770,10 +813,10 @@ int32_t wf_path_enqueue_bare(struct wf_path *path, uint16_t station, const struc
  * enqueue, a wake, a poll, a start, or a wf_path_begin or wf_path_free_tid. */
 int32_t wf_path_pull(struct wf_path *path, uint8_t class_, struct wf_reply *reply, struct wf_frames *frames);
 
-/* Opens the next exchange of a class as wf_path_pull does, for a device that can take only so much now: an
- * aggregate has at most `most` frames (also at most `agg`), and its data take at most `air` microseconds (also
- * at most the cap of the class). 0 limits nothing. One frame, and a BlockAckReq, go whatever the limits are. The
- * limits hold for this call alone. Returns and writes what wf_path_pull does. */
+/* Opens the next exchange of a class as wf_path_pull does, for a device that has little room now: an
+ * aggregate has at most `most` frames (also at most `agg`), and its data take at most `air` microseconds
+ * (also at most the cap of the class). 0 limits nothing. One frame, and a BlockAckReq, go whatever the limits
+ * are. The limits hold for this call alone. Returns and writes what wf_path_pull does. */
 int32_t wf_path_pull_limited(struct wf_path *path, uint8_t class_, uint32_t most, uint32_t air, struct wf_reply *reply,
                              struct wf_frames *frames);
 
@@ -787,16 +830,66 @@ int32_t wf_path_reap(struct wf_path *path, struct wf_reply *reply, struct wf_tak
 
 /* Makes `count` calls in order, each as its own function does, and writes the answer of each to the entry of
  * `replies` at its place. `room` is the number of entries of `replies`. An enqueue accepts a frame without
- * octets, with the tag 0 and the placeholder source. A pull writes no frames: wf_path_sent, wf_path_frame_id
- * and wf_path_frame_tag read them. A reap frees the frame; its answer has the id and the fate. A done is made
- * as by wf_path_done_lost: `heard` has to be 0. A call that is refused counts as made, and the burst goes on.
- * `made` is the number of calls that were made; the other entries of `replies` are unchanged. Returns WF_OK if
- * all were made; WF_SMALL_BUFFER if `room` is below `count`, and then none is made; or else what stops it at
- * the first call that is not made: WF_BAD_CALL if the struct shows no call, or an arrival, an answer or a done
- * that was heard, which a path does not take; WF_BAD_LENGTH if it is an enqueue and `length` is not 1 to
- * WF_GREATEST_BODY; or WF_NO_MEMORY if there is no memory for its frame. */
+ * octets, with the tag 0 and the placeholder source, and WF_CALL_GROUP a group frame with the tag 0 for
+ * ff:ff:ff:ff:ff:ff. A pull writes no frames: wf_path_sent, wf_path_frame_id and wf_path_frame_tag read them.
+ * Nor do WF_CALL_GPULL and WF_CALL_GDONE; their answers have the id. A reap frees the frame; its answer has
+ * the id and the fate. A done is made as by wf_path_done_lost: `heard` has to be 0. A call that is refused
+ * counts as made, and the burst goes on. `made` is the number of calls that were made; the other entries of
+ * `replies` are unchanged. Returns WF_OK if all were made; WF_SMALL_BUFFER if `room` is below `count`, and
+ * then none is made; or else what stops it at the first call that is not made: WF_BAD_CALL if the struct
+ * shows no call (wf_cell_ask), or an arrival, an answer or a done that was heard, which a path does not take;
+ * WF_BAD_LENGTH if it is an enqueue and `length` is not 1 to WF_GREATEST_BODY; or WF_NO_MEMORY if there is no
+ * memory for its frame. */
 int32_t wf_path_burst(struct wf_path *path, const struct wf_call *calls, size_t count, struct wf_reply *replies, size_t room,
                       size_t *made);
+
+/* ---- group frames: data frames to a group address, such as broadcasts. While a station sleeps, they wait
+ * for a DTIM beacon that announces them (IEEE 802.11-2012, 10.2.1.4); otherwise they may go at once. They are
+ * sent with OFDM at 6 Mbit/s, and no station answers them or is charged for them. wf_path_tally, wf_path_reap
+ * and the setting `room` do not count them, and the library stores none of their octets. A driver calls
+ * wf_path_beacon for each beacon, writes the TIM (wf_path_tim), and after the beacon pulls and sends group
+ * frames until WF_IDLE.
+ *
+ * Some hardware counts beacons, and has a queue that it sends after DTIM beacons. Its driver passes the
+ * hardware's count to wf_path_tim, and as `group` 1 if that queue has a frame, else 0. It leaves the setting
+ * `buffered` at 0, and calls none of the following functions. */
+
+/* Puts a group frame to the address `to` at the end of the queue; `id` of the reply is its id. `length` is
+ * the number of its octets, which stay with their owner, and `tag` identifies it to its owner. Returns WF_OK;
+ * WF_BAD_LENGTH exactly if `length` is not 1 to WF_GREATEST_BODY; else WF_BAD_ADDRESS exactly if `to` is no
+ * group address (the lowest bit of its first octet is 0); or else WF_BUFFERED if `count` group frames are
+ * queued, as many as the setting `buffered`, which is 0 in the standard settings. After WF_BAD_LENGTH and
+ * WF_BAD_ADDRESS `reply` is unchanged. */
+int32_t wf_path_group(struct wf_path *path, const uint8_t to[6], uint16_t length, uint64_t tag, struct wf_reply *reply);
+
+/* Reports that a beacon goes out. `count` of the reply is its DTIM count, which falls by 1 at each beacon,
+ * from the setting `period` less 1 to 0, and then begins again. A beacon with the count 0 is a DTIM beacon.
+ * It announces the group frames that are queued now: they may go until the next beacon, also while a station
+ * sleeps. `more` of the reply is 1 if it announces any, else 0. Beacons and group frames take their sequence
+ * numbers from one counter. Returns WF_OK. */
+int32_t wf_path_beacon(struct wf_path *path, struct wf_reply *reply);
+
+/* Takes the first group frame out of the queue, and writes it to `frame`. The driver then sends it. `start`
+ * of the reply is its sequence number (0 to 4095), `air` its airtime in microseconds, and `more` is 1 if a
+ * station sleeps and another group frame may go next. Returns WF_OK; WF_FLYING if a group frame is on the
+ * air; or WF_IDLE if none is queued, or if a station sleeps and the first one was not announced by the latest
+ * beacon. After an error nothing has changed, nor `frame`. */
+int32_t wf_path_group_pull(struct wf_path *path, struct wf_group *frame, struct wf_reply *reply);
+
+/* Writes the header of the group frame on the air: WF_GROUP_HEADER octets, a Data frame without QoS from the
+ * access point (wf_path_set_base), whose source address is `source`. The driver sends the body from its own
+ * buffer, which it finds by the tag. Returns WF_OK; or WF_NOTHING if no group frame is on the air, and then
+ * `out` is unchanged. */
+int32_t wf_path_group_header(const struct wf_path *path, const uint8_t source[6], uint8_t out[WF_GROUP_HEADER]);
+
+/* Reports that the transmission of the group frame on the air has ended, and writes this frame to `frame`: it
+ * belongs to its owner again. `id` of the reply is its id. Returns WF_OK; or WF_NOTHING if no group frame is
+ * on the air, and then `frame` is unchanged. */
+int32_t wf_path_group_done(struct wf_path *path, struct wf_group *frame, struct wf_reply *reply);
+
+/* Writes how many group frames were accepted, sent, and are queued or on the air, and how many sequence numbers
+ * they and the beacons took. */
+void wf_path_group_counts(const struct wf_path *path, struct wf_group_counts *counts);
 
 /* ---- an open exchange */
 
@@ -948,10 +1041,10 @@ int32_t wf_path_queued(const struct wf_path *path, uint16_t station, uint8_t tid
  * After an error `octets` is unchanged. */
 int32_t wf_path_octets(const struct wf_path *path, uint16_t station, uint8_t tid, uint64_t *octets);
 
-/* Writes the octets of a queue, and the state of CoDel in it, which an empty queue keeps. The frames of a flow
- * are in queue `flow` modulo `flows` or, if another TID uses this queue, in the overflow queue of their TID:
- * queue `flows` + 8 * station + TID. Returns WF_OK; or WF_BAD_INDEX exactly if there is no such queue, and then
- * `codel` is unchanged. */
+/* Writes the octets of a queue, and the state of CoDel in it, which an empty queue keeps. The frames of a
+ * flow are in queue `flow` modulo `flows` or, if another TID uses this queue, in the overflow queue of their
+ * TID: queue `flows` + 8 * station + TID. Returns WF_OK; or WF_BAD_INDEX exactly if the queue does not exist,
+ * and then `codel` is unchanged. */
 int32_t wf_path_codel(const struct wf_path *path, uint32_t queue, struct wf_codel *codel);
 
 /* Writes how many frames with sequence numbers of a live station's TID wait to be sent. Returns WF_OK;
@@ -970,14 +1063,19 @@ int32_t wf_path_flying(const struct wf_path *path, uint16_t station, uint8_t tid
  * station is not live. After an error `drained` is unchanged. */
 int32_t wf_path_drained(const struct wf_path *path, uint16_t station, uint8_t tid, uint32_t *drained);
 
-/* Writes the TIM element (IEEE 802.11-2012, 8.4.2.7), and returns its size in octets. It shows the association
- * identifiers (wf_path_set_aid) of the stations that sleep and have traffic, of all BSSs. The rest of `out` is
- * unchanged. */
-size_t wf_path_tim(const struct wf_path *path, uint8_t out[256]);
+/* Writes the TIM element (IEEE 802.11-2012, 8.4.2.7), and returns its size in octets. It shows the
+ * association identifiers (wf_path_set_aid) of the stations that sleep and have traffic, of all BSSs. `count`
+ * is the DTIM count and `period` the DTIM period in beacons; the bit for group frames is set if `group` is
+ * not 0. A driver that calls wf_path_beacon passes `count` of the latest reply, the setting `period` (1 if
+ * that is 0), and `more` of that reply; before the first beacon, and without group frames, it passes 0, 1 and
+ * 0. The rest of `out` is unchanged. */
+size_t wf_path_tim(const struct wf_path *path, uint8_t count, uint8_t period, uint8_t group, uint8_t out[256]);
 
 /* Writes the TIM element of one BSS as wf_path_tim does, and returns its size in octets. It shows only stations
- * whose access point has the address `bss` (wf_path_set_bss, or else wf_path_set_base). */
-size_t wf_path_tim_of(const struct wf_path *path, const uint8_t bss[6], uint8_t out[256]);
+ * whose access point has the address `bss` (wf_path_set_bss, or else wf_path_set_base). `count`, `period` and
+ * `group` are as for wf_path_tim. */
+size_t wf_path_tim_of(const struct wf_path *path, const uint8_t bss[6], uint8_t count, uint8_t period, uint8_t group,
+                      uint8_t out[256]);
 
 /* ---- cells. A cell has both halves, and the history of its calls. Transmissions are octets inside: the cell
  * writes each one that arrives, passes it to the station, and reads the station's BlockAck. The conditions
@@ -998,9 +1096,10 @@ void wf_cell_free(struct wf_cell *cell);
 /* Makes a call that neither accepts nor reaps a frame: all kinds except WF_CALL_ENQUEUE and WF_CALL_REAP. It
  * writes the answer to `reply`. `caller` is any number of the caller's, which the history keeps. Returns
  * WF_OK, or the first of these that holds: WF_BAD_CALL if the struct does not show such a call, or shows a
- * rate of no format or a class above 3, and then nothing has changed, nor `reply`; WF_HISTORY_FULL if the
- * history has `calls` entries, and then the state and the history of the cell are unchanged; the refusal of the
- * call. After WF_OK and a refusal of the call it is one entry of the history. */
+ * rate of no format, a class above 3, or a group frame whose `length` is not 1 to WF_GREATEST_BODY, and then
+ * nothing has changed, nor `reply`; WF_HISTORY_FULL if the history has `calls` entries, and then the state and
+ * the history of the cell are unchanged; the refusal of the call. After WF_OK and a refusal of the call it is
+ * one entry of the history. A group frame has the tag 0 and the address ff:ff:ff:ff:ff:ff. */
 int32_t wf_cell_ask(struct wf_cell *cell, uint32_t caller, const struct wf_call *call, struct wf_reply *reply);
 
 /* Accepts a packet for a station as a frame, whose id is `id` of the reply. The body is copied. Returns WF_OK,

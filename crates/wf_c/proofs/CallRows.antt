@@ -7,8 +7,10 @@ use Rattle.wf_frame.specs.Calls.{call_numbered, limits, no_limits}
 use Rattle.wf_frame.specs.Classes.{all_classes, class_among, class_number}
 use Rattle.wf_frame.specs.declared.classes.Class.{Class}
 use Rattle.wf_frame.specs.declared.notes.Note.TheVariants.{Enqueue, Asked}
-use Rattle.wf_frame.specs.declared.notes.Ask.TheVariants.{Join, Leave, Rate, Tick, Pull, Arrive, Answer, Done, Sleep, Wake, Poll, Rx, Reap, Ampdu, Stop, Start, Unsent, GiveUp, Flush, Offload, Weight, Plain, Hold, Begin, Free, Cease}
+use Rattle.wf_frame.specs.declared.notes.Ask.TheVariants.{Join, Leave, Rate, Tick, Pull, Arrive, Answer, Done, Sleep, Wake, Poll, Rx, Reap, Ampdu, Stop, Start, Unsent, GiveUp, Flush, Offload, Weight, Plain, Hold, Begin, Free, Cease, Group}
+use Rattle.wf_frame.specs.declared.notes.GroupAsk.TheVariants as group
 use Rattle.wf_frame.specs.declared.notes.AskedRate.TheVariants.{Ht, Vht, He, Ofdm, Dsss}
+use Rattle.wf_def_world.specs.Refusals.{is_within}
 use Rattle.wf_c.specs.CallNumbers.{blank_call, numbers_of_call, asked, call_noted}
 use Rattle.wf_c.specs.Numbers.{flag_of, is_up}
 use Rattle.wf_c.specs.declared.cell.calls.CallNumbers.{CallNumbers}
@@ -192,6 +194,19 @@ pub fields_of_cease : (station tid : ℕ) →
     ≡ record blank_call { kind = 26; station = station; tid = tid }
 fields_of_cease station tid = refl
 
+pub fields_of_group : (len : ℕ) →
+    numbers_of_call (Asked (Group (group.Accept len))) ≡ record blank_call { kind = 27; length = len }
+fields_of_group len = refl
+
+pub fields_of_beacon : numbers_of_call (Asked (Group group.Beacon)) ≡ record blank_call { kind = 28 }
+fields_of_beacon = refl
+
+pub fields_of_gpull : numbers_of_call (Asked (Group group.Pull)) ≡ record blank_call { kind = 29 }
+fields_of_gpull = refl
+
+pub fields_of_gdone : numbers_of_call (Asked (Group group.Done)) ≡ record blank_call { kind = 30 }
+fields_of_gdone = refl
+
 -- ---- the call of fields
 
 -- the calls that these fields show, by their kind and some other field
@@ -242,12 +257,19 @@ pub record Rows (c : CallNumbers) : Type 0 where
   pub begin : asked (record c { kind = 24 }) ≡ Some (Begin c.station c.tid c.window)
   pub free : asked (record c { kind = 25 }) ≡ Some (Free c.station c.tid)
   pub cease : asked (record c { kind = 26 }) ≡ Some (Cease c.station c.tid)
-  pub no_call : (n : ℕ) → 26 < n → asked (record c { kind = n }) ≡ None
+  pub group_call : 1 ≤ c.length → c.length ≤ 2304 →
+      asked (record c { kind = 27 }) ≡ Some (Group (group.Accept c.length))
+  pub empty_group : asked (record c { kind = 27; length = 0 }) ≡ None
+  pub long_group : (n : ℕ) → 2304 < n → asked (record c { kind = 27; length = n }) ≡ None
+  pub beacon : asked (record c { kind = 28 }) ≡ Some (Group group.Beacon)
+  pub gpull : asked (record c { kind = 29 }) ≡ Some (Group group.Pull)
+  pub gdone : asked (record c { kind = 30 }) ≡ Some (Group group.Done)
+  pub no_call : (n : ℕ) → 30 < n → asked (record c { kind = n }) ≡ None
 
 above : (n k : ℕ) → k < n → nat_eq n k ≡ false
 above n k less = grind (arith, nat_tests)
 
-none_numbered : (n : ℕ) → 26 < n → call_numbered n ≡ None
+none_numbered : (n : ℕ) → 30 < n → call_numbered n ≡ None
 none_numbered n less = grind (arith, nat_tests)
 
 is_class : (n : ℕ) → n ≤ 3 → nat_lt 3 n ≡ false
@@ -255,6 +277,12 @@ is_class n low = grind (arith, nat_tests)
 
 no_class : (n : ℕ) → 3 < n → nat_lt 3 n ≡ true
 no_class n high = grind (arith, nat_tests)
+
+is_length : (n : ℕ) → 1 ≤ n → n ≤ 2304 → is_within 1 2304 n ≡ true
+is_length n some most = grind (arith, nat_tests)
+
+no_length : (n : ℕ) → 2304 < n → is_within 1 2304 n ≡ false
+no_length n long = grind (arith, nat_tests)
 
 pub rows : (c : CallNumbers) → Rows c
 unfolding asked call_noted
@@ -303,5 +331,11 @@ rows c = record {
   begin = refl;
   free = refl;
   cease = refl;
+  group_call = λ some most. rw (is_length c.length some most) refl;
+  empty_group = refl;
+  long_group = λ n long. rw (no_length n long) refl;
+  beacon = refl;
+  gpull = refl;
+  gdone = refl;
   no_call = λ n less. rw (none_numbered n less) refl;
 }

@@ -5,6 +5,7 @@ mod CallLengths
 mod CallRows
 mod Ended
 mod Filled
+mod Groups
 mod Ids
 mod Makings
 mod Pairs

@@ -14,13 +14,13 @@ use Rattle.wf_c.specs.declared.held.Held.{Held}
 abbrev pub address_code : Option BadAddress → ℕ
 address_code None = 0
 address_code (Some NoStation) = refusal_number refusal.BadStation
-address_code (Some Group) = 44
+address_code (Some Group) = 64
 
 -- the code of setting an association identifier
 abbrev pub aid_code : Option AidFault → ℕ
 aid_code None = 0
 aid_code (Some aid.NoStation) = refusal_number refusal.BadStation
-aid_code (Some aid.BadAid) = 46
+aid_code (Some aid.BadAid) = 66
 
 -- the code of reading a station's address
 abbrev pub told_code : Option (List ℕ) → ℕ

@@ -58,7 +58,7 @@ bare_shown station p = record
 
 -- the code of a body that does not fit in a frame
 abbrev pub bad_length : ℕ
-bad_length = 41
+bad_length = 61
 
 -- Nothing has changed, neither what the handle holds nor the caller's reply, and the code says why.
 pub record IsUntouched {X : Type 0} (old new : X) (before shown : Reply) (code : ℤ)
@@ -81,7 +81,7 @@ pub record IsGivenToC (h : Held) (f : FrameValue) (k : Held) (shown : Reply) : T
 
 -- the code of a buffer that has no room for the longest body
 abbrev pub small_buffer : ℕ
-small_buffer = 42
+small_buffer = 62
 
 -- whether a buffer of n octets is too small: it has some room, but not for the longest body; a buffer of no
 -- octets gets no body

@@ -14,6 +14,8 @@ use Rattle.wf_frame.specs.declared.notes.Ask.{Ask}
 use Rattle.wf_frame.specs.declared.notes.Ask.TheVariants.{Reap}
 use Rattle.wf_frame.specs.declared.notes.Note.{Note}
 use Rattle.wf_frame.specs.declared.notes.Note.TheVariants.{Enqueue, Asked}
+use Rattle.wf_def_lists.specs.Lengths.{greatest_body}
+use Rattle.wf_def_world.specs.Refusals.{is_within}
 use Rattle.wf_c.specs.Numbers.{flag_of, is_up, given_number}
 use Rattle.wf_c.specs.declared.cell.calls.CallNumbers.{CallNumbers}
 
@@ -155,14 +157,20 @@ form_of_format n =
 abbrev pub form_of_class : CallForm → ℕ → Option CallForm
 form_of_class f class = if nat_lt 3 class then None else Some f
 
--- the form of a call that the fields show: for a rate by its format, for a Done by whether it gives an
--- airtime, for a Pull by its limits; a call of a class that does not exist has none
+-- the form of a call that brings a body, if a body may have this length
+abbrev pub form_of_length : CallForm → ℕ → Option CallForm
+form_of_length f len = if is_within 1 greatest_body len then Some f else None
+
+-- The form of a call that the fields show: for a rate by its format, for a Done by whether it gives an
+-- airtime, for a Pull by its limits. A call of a class that does not exist has none, nor has a group frame
+-- with a length that no body has.
 abbrev pub form_of_fields : CallNumbers → CallForm → Option CallForm
 form_of_fields c form.Rate = form_of_format c.form
 form_of_fields c form.Done = Some (form_of_end (given_number c.air))
 form_of_fields c form.Pull =
     form_of_class (form_of_limits (given_number c.frames) (given_number c.air)) c.class
 form_of_fields c form.Rx = form_of_class form.Rx c.class
+form_of_fields c form.Group = form_of_length form.Group c.length
 form_of_fields c call = Some call
 
 -- the form that the fields show

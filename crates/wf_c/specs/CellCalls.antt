@@ -70,7 +70,7 @@ pub record IsStepped (h : HeldCell) (caller : ℕ) (job : Job) (k : HeldCell) (s
 
 -- the code of numbers that show no call without a frame
 abbrev pub bad_call : ℕ
-bad_call = 43
+bad_call = 63
 
 -- The effect of a call by numbers on a handle and on the caller's struct: if the numbers show a call, it is
 -- made; otherwise nothing changes.

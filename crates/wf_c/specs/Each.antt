@@ -25,7 +25,7 @@ has_bad_outcome = list_any (λ n. nat_lt 3 n)
 
 -- the code of such numbers
 abbrev pub bad_outcome : ℕ
-bad_outcome = 48
+bad_outcome = 68
 
 -- The effect of the end of exchange e by the outcomes of its transmissions: h before, k after, and the
 -- caller's struct. `air` is the airtime that was given, if any. No node of the reserve is taken.

@@ -34,21 +34,21 @@ abbrev pub write_code : Option PathFault → ℕ
 write_code None = 0
 write_code (Some fault.NoExchange) = refusal_number refusal.NoExchange
 write_code (Some fault.BadIndex) = refusal_number refusal.BadIndex
-write_code (Some fault.NoBody) = 45
-write_code (Some (fault.SmallBuffer need)) = 42
+write_code (Some fault.NoBody) = 65
+write_code (Some (fault.SmallBuffer need)) = 62
 
 -- the code of an end by octets, for a fault of the octets
 abbrev pub end_code : Option DoneFault → ℕ
 end_code None = 0
 end_code (Some done.NoExchange) = refusal_number refusal.NoExchange
-end_code (Some (done.Block (Length need have))) = 51
-end_code (Some (done.Block (Kind octet))) = 52
-end_code (Some (done.Block NotCompressed)) = 53
-end_code (Some (done.Block MultiTid)) = 54
-end_code (Some (done.Block (Fragment number))) = 55
-end_code (Some (done.Block NotWide)) = 56
-end_code (Some done.NotMine) = 57
-end_code (Some (done.WrongTid found)) = 58
+end_code (Some (done.Block (Length need have))) = 71
+end_code (Some (done.Block (Kind octet))) = 72
+end_code (Some (done.Block NotCompressed)) = 73
+end_code (Some (done.Block MultiTid)) = 74
+end_code (Some (done.Block (Fragment number))) = 75
+end_code (Some (done.Block NotWide)) = 76
+end_code (Some done.NotMine) = 77
+end_code (Some (done.WrongTid found)) = 78
 
 -- the code of a call that is refused, if it is
 abbrev pub refused_code : Option Refusal → ℕ

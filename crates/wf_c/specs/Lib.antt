@@ -10,6 +10,7 @@ pub mod CellLending
 pub mod Clock
 pub mod Each
 pub mod Ends
+pub mod Groups
 pub mod Lending
 pub mod Making
 pub mod Names

@@ -7,7 +7,7 @@ use Rattle.wf_c.specs.declared.settings.Settings.{Settings}
 
 -- the place of the first reserved number: it follows the settings
 abbrev pub first_reserved : ℕ
-first_reserved = 26
+first_reserved = 28
 
 -- the place of the first reserved number that is not 0, if any
 abbrev pub first_set : List ℕ → Option ℕ
@@ -47,6 +47,8 @@ config_of s = record {
   answers = s.answers;
   credits = s.credits;
   legacy = s.legacy;
+  period = s.period;
+  buffered = s.buffered;
 }
 
 -- end settings
@@ -63,11 +65,11 @@ bad_place s = place_or (first_out_of_range (config_of s)) (first_set s.reserved)
 
 -- the code for "out of memory"
 abbrev pub no_memory : ℕ
-no_memory = 40
+no_memory = 60
 
 -- the code of a handle that holds something already
 abbrev pub in_use : ℕ
-in_use = 49
+in_use = 69
 
 -- the code of making a path, by the place of the setting that is out of its range, if any
 abbrev pub IsMadeCode : Option ℕ → ℤ → Type 0

@@ -46,9 +46,9 @@ refusal_word_at n = word_or_unknown (option_map refusal_word (refusal_numbered n
 -- the words for why octets are not a BlockAck to an exchange
 abbrev pub block_rows : List (ℕ × List ℕ)
 block_rows =
-    (51, codes "block-length") ∷ (52, codes "block-kind") ∷ (53, codes "block-basic") ∷
-    (54, codes "block-multi") ∷ (55, codes "block-fragment") ∷ (56, codes "block-narrow") ∷
-    (57, codes "not-mine") ∷ (58, codes "wrong-tid") ∷ []
+    (71, codes "block-length") ∷ (72, codes "block-kind") ∷ (73, codes "block-basic") ∷
+    (74, codes "block-multi") ∷ (75, codes "block-fragment") ∷ (76, codes "block-narrow") ∷
+    (77, codes "not-mine") ∷ (78, codes "wrong-tid") ∷ []
 
 -- the word for such a code
 abbrev pub block_word : ℕ → List ℕ
@@ -57,19 +57,19 @@ block_word = word_among block_rows
 -- the words for the other codes
 abbrev pub own_rows : List (ℕ × List ℕ)
 own_rows =
-    (0, codes "ok") ∷ (40, codes "no-memory") ∷ (41, codes "bad-length") ∷ (42, codes "small-buffer") ∷
-    (43, codes "bad-call") ∷ (44, codes "bad-address") ∷ (45, codes "no-body") ∷ (46, codes "bad-aid") ∷
-    (47, codes "bad-class") ∷ (48, codes "bad-outcome") ∷ (49, codes "in-use") ∷ []
+    (0, codes "ok") ∷ (60, codes "no-memory") ∷ (61, codes "bad-length") ∷ (62, codes "small-buffer") ∷
+    (63, codes "bad-call") ∷ (64, codes "bad-address") ∷ (65, codes "no-body") ∷ (66, codes "bad-aid") ∷
+    (67, codes "bad-class") ∷ (68, codes "bad-outcome") ∷ (69, codes "in-use") ∷ []
 
 -- the word for such a code
 abbrev pub own_word : ℕ → List ℕ
 own_word = word_among own_rows
 
--- the word for any code: 1 to 39 are for refusals, and 101 to 132 for settings, by their places
+-- the word for any code: 1 to 59 are for refusals, and 101 to 132 for settings, by their places
 abbrev pub code_word : ℕ → List ℕ
 code_word n =
-    if is_within 1 39 n then refusal_word_at n
-    else (if is_within 51 58 n then block_word n
+    if is_within 1 59 n then refusal_word_at n
+    else (if is_within 71 78 n then block_word n
     else (if is_within 101 132 n then codes "bad-setting"
     else own_word n))
 
@@ -84,7 +84,8 @@ kind_rows =
     (14, codes "refused") ∷ (15, codes "stopped") ∷ (16, codes "started") ∷
     (17, codes "marked") ∷ (18, codes "flushed") ∷
     (19, codes "ack") ∷ (20, codes "held") ∷ (21, codes "begun") ∷ (22, codes "freed") ∷
-    (23, codes "ceased") ∷ []
+    (23, codes "ceased") ∷ (24, codes "queued") ∷ (25, codes "beacon") ∷ (26, codes "gsend") ∷
+    (27, codes "gdone") ∷ []
 
 -- the word for a kind of answer
 abbrev pub answer_word : ℕ → List ℕ

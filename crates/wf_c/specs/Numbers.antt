@@ -7,6 +7,8 @@ use Rattle.wf_frame.specs.declared.answers.Brief.TheVariants.{Joined, Set, Now, 
 use Rattle.wf_frame.specs.declared.answers.Brief.TheVariants as brief
 use Rattle.wf_frame.specs.declared.answers.Kind.{Kind}
 use Rattle.wf_frame.specs.declared.answers.Kind.TheVariants.{Batch, Plain}
+use Rattle.wf_frame.specs.declared.notes.GroupReply.{GroupReply}
+use Rattle.wf_frame.specs.declared.notes.GroupReply.TheVariants as group
 use Rattle.wf_frame.specs.Calls.{limits}
 use Rattle.wf_frame.specs.Refusals.{refusal_number}
 use Rattle.wf_frame.specs.declared.notes.Limits.{Limits}
@@ -29,7 +31,7 @@ class_shown n = slice_get all_classes n
 
 -- the code of a number that names no class
 abbrev pub bad_class : ℕ
-bad_class = 47
+bad_class = 67
 
 -- the list of a class that contains a station: 1 the new one, 2 the old one, 0 neither
 abbrev pub list_number : Option Side → ℕ
@@ -107,9 +109,19 @@ with_refusal (refusal.Full count) r = record r { count = count }
 with_refusal (refusal.Debt deficit) r = record r { deficit = deficit }
 with_refusal (refusal.Ahead owed) r = record r { air = owed }
 with_refusal (refusal.Waits count) r = record r { count = count }
+with_refusal (refusal.Buffered queued) r = record r { count = queued }
 with_refusal _ r = r
 
 -- end refusals
+
+-- the fields of the answer to a call about group frames
+abbrev pub numbers_of_group : GroupReply → Reply
+numbers_of_group (group.Queued id) = record blank { kind = 24; id = id }
+numbers_of_group (group.Beacon count follows) =
+    record blank { kind = 25; count = count; more = flag_of follows }
+numbers_of_group (group.Send id number air more) =
+    record blank { kind = 26; id = id; start = number; air = air; more = flag_of more }
+numbers_of_group (group.Done id) = record blank { kind = 27; id = id }
 
 -- the fields of an answer; its lists, and the fields of a BlockAck, are in other structs
 abbrev pub numbers_of : Brief → Reply
@@ -146,6 +158,7 @@ numbers_of (brief.Held start) = record blank { kind = 20; start = start }
 numbers_of Begun = record blank { kind = 21 }
 numbers_of Freed = record blank { kind = 22 }
 numbers_of (brief.Ceased dropped) = record blank { kind = 23; count = dropped }
+numbers_of (brief.Group answer) = numbers_of_group answer
 numbers_of (Refused reason) = with_refusal reason
     (record blank { kind = 14; refusal = refusal_number reason })
 

@@ -14,6 +14,7 @@ pub record ShowsCodel (w : World) (q : ℕ) (shown : Codel) : Type 0 where
   pub drop_next : shown.drop_next ≡ (queue w q).codel.drop_next
   pub drop_count : shown.drop_count ≡ (queue w q).codel.count
   pub dropping : shown.dropping ≡ flag_of (queue w q).codel.dropping
+  pub dropped : shown.dropped ≡ (queue w q).codel.dropped
 
 -- the code of reading queue q
 abbrev pub queue_code : World → ℕ → ℕ

@@ -15,8 +15,8 @@ use crate::slot::PathSlot;
 use wf_frame::Refusal;
 use wf_path::BadAddress;
 
-/// The code of a group address.
-const BAD_ADDRESS: i32 = 44;
+/// The code of an address that is a group address, or, for a group frame, is none.
+pub(crate) const BAD_ADDRESS: i32 = 64;
 
 // The code of an address that was set or refused.
 pub(crate) fn code_of(named: Result<(), BadAddress>) -> i32
@@ -63,7 +63,7 @@ impl Held {
     }
 }
 
-/// Sets the access point's address. Returns 0; or 44 if it is a group address, and then nothing has changed.
+/// Sets the access point's address. Returns 0; or 64 if it is a group address, and then nothing has changed.
 #[unsafe(no_mangle)]
 pub extern "C" fn wf_path_set_base(path: &mut PathSlot, address: &[u8; 6]) -> i32
     requires open { is_some path.old.value ≡ true }
@@ -75,7 +75,7 @@ pub extern "C" fn wf_path_set_base(path: &mut PathSlot, address: &[u8; 6]) -> i3
     code_of(path.held().set_base(*address))
 }
 
-/// Sets a station's address. Returns 0; 1 if the station number does not exist; or else 44 if it is a group
+/// Sets a station's address. Returns 0; 1 if the station number does not exist; or else 64 if it is a group
 /// address. After an error nothing has changed.
 #[unsafe(no_mangle)]
 pub extern "C" fn wf_path_set_address(path: &mut PathSlot, station: u16, address: &[u8; 6]) -> i32

@@ -21,7 +21,7 @@ use wf_path::PathAsk;
 
 impl PathSlot {
     // Makes a call that brings and returns no frame, and whose answer has no lists.
-    fn ask(&mut self, ask: PathAsk, reply: &mut Reply) -> i32
+    pub(crate) fn ask(&mut self, ask: PathAsk, reply: &mut Reply) -> i32
         requires open { is_some self.old.value ≡ true }
         requires small { HoldsSmall self.old.value }
         ensures called { Becomes (λ h k. IsCalled h (as_ask ask) k reply.new) self.old.value self.new.value }
@@ -55,7 +55,7 @@ impl PathSlot {
 }
 
 /// The code of a class above 3.
-pub(crate) const BAD_CLASS: i32 = 47;
+pub(crate) const BAD_CLASS: i32 = 67;
 
 // The class of a number. None if it is above 3.
 pub(crate) fn class_of_number(number: u8) -> Option<Class>
@@ -492,7 +492,7 @@ pub extern "C" fn wf_path_give_up(
     path.ask(PathAsk::GiveUp { exchange, index }, reply)
 }
 
-/// Charges a station for `air` microseconds that it used to send in a class. Returns 47 if the class is above
+/// Charges a station for `air` microseconds that it used to send in a class. Returns 67 if the class is above
 /// 3, and then nothing has changed.
 #[unsafe(no_mangle)]
 pub extern "C" fn wf_path_rx(
@@ -523,7 +523,7 @@ pub extern "C" fn wf_path_rx(
 }
 
 /// Opens the next exchange of a class. If it sends frames, `frames` gets them;
-/// otherwise their count is 0. Returns 47 if the class is above 3, and then nothing has changed.
+/// otherwise their count is 0. Returns 67 if the class is above 3, and then nothing has changed.
 #[unsafe(no_mangle)]
 pub extern "C" fn wf_path_pull(
     path: &mut PathSlot,

@@ -75,7 +75,7 @@ impl Held {
     }
 }
 
-/// Takes memory until that for `frames` frames without octets is in reserve. Returns 0; or 40 if there is no
+/// Takes memory until that for `frames` frames without octets is in reserve. Returns 0; or 60 if there is no
 /// memory, and then nothing has changed.
 #[unsafe(no_mangle)]
 pub extern "C" fn wf_path_reserve(alloc: Global, path: &mut PathSlot, frames: u32) -> i32
@@ -91,9 +91,9 @@ pub extern "C" fn wf_path_reserve(alloc: Global, path: &mut PathSlot, frames: u3
     }
 }
 
-/// Accepts a packet for a station as a frame, without its octets. Returns 0; 41 if the length is 0 or above
-/// 2304; 40 if no frame is in reserve and there is no memory for one; or the refusal of the call. After 40
-/// and 41 nothing has changed.
+/// Accepts a packet for a station as a frame, without its octets. Returns 0; 61 if the length is 0 or above
+/// 2304; 60 if no frame is in reserve and there is no memory for one; or the refusal of the call. After 60
+/// and 61 nothing has changed.
 #[unsafe(no_mangle)]
 pub extern "C" fn wf_path_enqueue_bare(
     alloc: Global,

@@ -3,23 +3,24 @@
 ghost use Rattle.std.specs.Prelude.{◌≡◌, ◌⊎◌, ℕ, Some, true, is_some, pos, take, drop, OnErr, OnOk};
 ghost use Rattle.std.specs.Result.{result_err};
 ghost use Rattle.wf_frame.specs.Frames.{FrameValue};
-ghost use Rattle.wf_def_world.specs.Text.{traffic_map};
 ghost use Rattle.wf_def_world.specs.World.{World};
 ghost use Rattle.wf_send_half_model.specs.Standing.{StandsFor};
 ghost use Rattle.wf_path.specs.Addresses.{aid_fault, set_fault, with_aid, with_bss};
-ghost use Rattle.wf_path.specs.Traffic.{aids_shown};
+ghost use Rattle.wf_path.specs.Traffic.{tim_shown};
 ghost use Rattle.wf_c.specs.Addresses.{address_code, aid_code, with_addresses};
 ghost use Rattle.wf_c.specs.Calls.{Becomes, HoldsFor, addresses_held};
+ghost use Rattle.wf_c.specs.Groups.{tim_given};
 
 use crate::addresses::code_of;
 use crate::held::Held;
+use crate::readers::given_tim;
 use crate::reply::refusal_code;
 use crate::slot::PathSlot;
 use wf_frame::Refusal;
 use wf_path::{AidFault, BadAddress};
 
 /// The code of a number that is no AID.
-const BAD_AID: i32 = 46;
+const BAD_AID: i32 = 66;
 
 // The code of an AID that was set or refused.
 fn code_of_aid(set: Result<(), AidFault>) -> i32
@@ -59,7 +60,7 @@ impl Held {
 }
 
 /// Sets the access point's address in frames to and from a station. Returns 0; 1 if the station number does
-/// not exist; or else 44 if it is a group address. After an error nothing has changed.
+/// not exist; or else 64 if it is a group address. After an error nothing has changed.
 #[unsafe(no_mangle)]
 pub extern "C" fn wf_path_set_bss(path: &mut PathSlot, station: u16, address: &[u8; 6]) -> i32
     requires open { is_some path.old.value ≡ true }
@@ -73,7 +74,7 @@ pub extern "C" fn wf_path_set_bss(path: &mut PathSlot, station: u16, address: &[
 }
 
 /// Sets the association identifier of a station, which the TIM shows. Returns 0; 1 if the station number does
-/// not exist; or else 46 if the identifier is 0 or above 2007. After an error nothing has changed.
+/// not exist; or else 66 if the identifier is 0 or above 2007. After an error nothing has changed.
 #[unsafe(no_mangle)]
 pub extern "C" fn wf_path_set_aid(path: &mut PathSlot, station: u16, aid: u16) -> i32
     requires open { is_some path.old.value ≡ true }
@@ -87,14 +88,23 @@ pub extern "C" fn wf_path_set_aid(path: &mut PathSlot, station: u16, aid: u16) -
 }
 
 /// Writes the TIM element (IEEE 802.11-2012, 8.4.2.7) of the live stations of one BSS that sleep and have
-/// traffic, and returns its size in octets.
+/// traffic, with these fields, as `wf_path_tim` does for all. Returns its size in octets.
 #[unsafe(no_mangle)]
-pub extern "C" fn wf_path_tim_of(path: &mut PathSlot, bss: &[u8; 6], out: &mut [u8; 256]) -> usize
+pub extern "C" fn wf_path_tim_of(
+    path: &mut PathSlot,
+    bss: &[u8; 6],
+    count: u8,
+    period: u8,
+    group: u8,
+    out: &mut [u8; 256],
+) -> usize
     requires open { is_some path.old.value ≡ true }
     ensures octets { (w : World) (bodies : ℕ → FrameValue) → HoldsFor path.old.value w bodies →
-        take result out.new ≡ traffic_map (aids_shown (addresses_held path.old.value) (Some bss.now) w) }
+        take result out.new ≡ tim_shown (tim_given count period group)
+        (addresses_held path.old.value) (Some bss.now) w }
     ensures rest { drop result out.new ≡ drop result out.old }
     ensures unchanged { path.new.value ≡ path.old.value }
 {
-    path.held().path.tim_of(*bss, out)
+    let tim = given_tim(count, period, group);
+    path.held().path.tim_with(tim, Some(*bss), out)
 }

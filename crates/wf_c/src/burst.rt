@@ -26,7 +26,7 @@ use wf_frame::{Answer, Ask, GREATEST_BODY, Note, Refusal};
 use wf_path::{ExchangeAsk, Path, PathJob};
 
 /// The code of numbers that show no call.
-pub(crate) const BAD_CALL: i32 = 43;
+pub(crate) const BAD_CALL: i32 = 63;
 
 /// Why a burst ends before a call.
 #[derive(Clone, Copy)]
@@ -212,8 +212,8 @@ impl Held {
 
 /// Makes calls in order, each reply at its place, up to the first that is not made. An enqueue is of a frame
 /// whose octets stay with its owner; a reaped frame is freed; the end of an exchange was not heard. `made` is
-/// how many were made. Returns 0 if all were; 43 for numbers that show no call that a path takes; 41 for an
-/// enqueue of a length that no frame has; 40 if there is no memory; or 42 if there are fewer replies than
+/// how many were made. Returns 0 if all were; 63 for numbers that show no call that a path takes; 61 for an
+/// enqueue of a length that no frame has; 60 if there is no memory; or 62 if there are fewer replies than
 /// calls, and then no call is made.
 #[unsafe(no_mangle)]
 pub extern "C" fn wf_path_burst(

@@ -19,7 +19,7 @@ use wf_frame::{Brief, Refusal};
 use wf_path::Outcome;
 
 /// The code of numbers one of which is no number of an outcome.
-const BAD_OUTCOME: i32 = 48;
+const BAD_OUTCOME: i32 = 68;
 
 /// The most transmissions of an exchange.
 const MOST: usize = 256;
@@ -103,7 +103,7 @@ impl Held {
 /// Ends an exchange by the outcomes of its transmissions, in their order: 0 for an acknowledged one, 1 for
 /// one that may be tried again, 2 for one that never went on the air, and 3 for one that the device will not
 /// try again. For a batch 1 is the same as 3, since the device has repeated its frames. The station is
-/// charged `air` microseconds, or the computed charge if `air` is 0. Returns 0; 48 if an outcome is above 3,
+/// charged `air` microseconds, or the computed charge if `air` is 0. Returns 0; 68 if an outcome is above 3,
 /// and then nothing has changed; 12 if the exchange is not open; 9 if it has another number of transmissions;
 /// 32 if one of them has a mark already; or 8 if `air` is above the setting `charge`.
 #[unsafe(no_mangle)]

@@ -144,8 +144,8 @@ pub extern "C" fn wf_path_header(
 }
 
 /// Writes the octets of one transmission, and their number to `size`. Returns 0; 12 if the exchange is not
-/// open; 9 if it has no transmission with that index; 45 if its frame is bare; or 42 if `out` is too small.
-/// After an error `out` is unchanged; after 42 `size` is the number of octets that are needed, and after the
+/// open; 9 if it has no transmission with that index; 65 if its frame is bare; or 62 if `out` is too small.
+/// After an error `out` is unchanged; after 62 `size` is the number of octets that are needed, and after the
 /// other errors it is unchanged.
 #[unsafe(no_mangle)]
 pub extern "C" fn wf_path_mpdu(
@@ -186,10 +186,10 @@ pub extern "C" fn wf_path_mpdu(
 }
 
 /// The code of a buffer that is too small.
-pub(crate) const SMALL_BUFFER: i32 = 42;
+pub(crate) const SMALL_BUFFER: i32 = 62;
 
 /// The code of a transmission whose frame is bare.
-const NO_BODY: i32 = 45;
+const NO_BODY: i32 = 65;
 
 // The airtime or the limit that a number gives; 0 gives none.
 pub(crate) fn given_number(number: u32) -> Option<u32>
@@ -294,7 +294,7 @@ pub extern "C" fn wf_path_done_bits(
 }
 
 /// Ends an exchange by the octets of a BlockAck that was heard. The station is charged `air` microseconds, or
-/// the computed charge if `air` is 0. Returns 0; 12 if the exchange is not open; 51 to 58 if the octets are
+/// the computed charge if `air` is 0. Returns 0; 12 if the exchange is not open; 71 to 78 if the octets are
 /// not a BlockAck to it; 13 if nothing of it went on the air; or else 8 if `air` is above the setting
 /// `charge`. After an error the exchange is still open, and `reply` is unchanged.
 #[unsafe(no_mangle)]
@@ -327,19 +327,19 @@ pub extern "C" fn wf_path_done_octets(
     }
 }
 
-// The code of octets that are not a BlockAck to an exchange: 12, or 51 to 58.
+// The code of octets that are not a BlockAck to an exchange: 12, or 71 to 78.
 fn number_of_done_fault(fault: DoneFault) -> u8
     ensures { result ≡ end_code (Some fault) }
 {
     match fault {
         DoneFault::NoExchange => Refusal::NoExchange.number(),
-        DoneFault::Block(BlockFault::Length { .. }) => 51,
-        DoneFault::Block(BlockFault::Kind(_)) => 52,
-        DoneFault::Block(BlockFault::NotCompressed) => 53,
-        DoneFault::Block(BlockFault::MultiTid) => 54,
-        DoneFault::Block(BlockFault::Fragment(_)) => 55,
-        DoneFault::Block(BlockFault::NotWide) => 56,
-        DoneFault::NotMine => 57,
-        DoneFault::WrongTid { .. } => 58,
+        DoneFault::Block(BlockFault::Length { .. }) => 71,
+        DoneFault::Block(BlockFault::Kind(_)) => 72,
+        DoneFault::Block(BlockFault::NotCompressed) => 73,
+        DoneFault::Block(BlockFault::MultiTid) => 74,
+        DoneFault::Block(BlockFault::Fragment(_)) => 75,
+        DoneFault::Block(BlockFault::NotWide) => 76,
+        DoneFault::NotMine => 77,
+        DoneFault::WrongTid { .. } => 78,
     }
 }

@@ -18,7 +18,7 @@ use wf_path::PathJob;
 use wf_queue_parts::chain::Parcel;
 
 /// The code of a body that is empty, or longer than 2304 octets.
-pub(crate) const BAD_LENGTH: i32 = 41;
+pub(crate) const BAD_LENGTH: i32 = 61;
 
 /// Why no frame was made.
 #[derive(Clone, Copy)]
@@ -173,16 +173,16 @@ impl Taken {
         ensures length { length frame.now.body ≤ greatest_body }
     {
         Taken {
-            id: frame.id(),
-            stamp: frame.stamp(),
+            id: frame.id,
+            stamp: frame.stamp,
             tag: frame.tag(),
             flow: frame.flow(),
             station: frame.station(),
             length: frame.len(),
             source: frame.source(),
             tid: frame.tid(),
-            fate: frame.fate().number(),
-            attempts: frame.attempts(),
+            fate: frame.fate.number(),
+            attempts: frame.attempts,
             bare: u8::from(frame.is_bare()),
         }
     }
@@ -205,8 +205,8 @@ fn copy_to_front(octets: &[u8], buffer: &mut [u8])
     front.copy_from_slice(octets);
 }
 
-/// Accepts a packet for a station as a frame. Returns 0; 41 if the body is empty or longer than 2304 octets;
-/// 40 if there is no memory for the frame; or the refusal of the call. After 40 and 41 nothing has changed.
+/// Accepts a packet for a station as a frame. Returns 0; 61 if the body is empty or longer than 2304 octets;
+/// 60 if there is no memory for the frame; or the refusal of the call. After 60 and 61 nothing has changed.
 #[unsafe(no_mangle)]
 pub extern "C" fn wf_path_enqueue(
     alloc: Global,
@@ -236,7 +236,7 @@ pub extern "C" fn wf_path_enqueue(
 }
 
 /// Takes out the first finished frame, and copies its body to the front of a buffer. A buffer of 0 octets
-/// gets no body, and a bare frame changes no buffer. Returns the refusal, or 0; or 42 if the buffer has some
+/// gets no body, and a bare frame changes no buffer. Returns the refusal, or 0; or 62 if the buffer has some
 /// room, but not for the longest body, and then nothing has changed.
 #[unsafe(no_mangle)]
 pub extern "C" fn wf_path_reap(

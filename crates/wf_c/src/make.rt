@@ -13,17 +13,17 @@ use crate::slot::PathSlot;
 use std::alloc::Global;
 
 /// The code for "out of memory".
-pub(crate) const NO_MEMORY: i32 = 40;
+pub(crate) const NO_MEMORY: i32 = 60;
 
 /// The code of a handle that holds something already.
-pub(crate) const IN_USE: i32 = 49;
+pub(crate) const IN_USE: i32 = 69;
 
 /// The code of a setting that is out of its range is this plus the setting's place.
 pub(crate) const BAD_SETTING: i32 = 100;
 
 /// Makes a path with these settings in an empty handle: no station is live, no frame was accepted, and the
-/// addresses are placeholders. Returns 0; 49 if the handle holds a path already; 100 plus the place of the
-/// first setting that is out of its range; or 40 if there is no memory. After an error the handle is as
+/// addresses are placeholders. Returns 0; 69 if the handle holds a path already; 100 plus the place of the
+/// first setting that is out of its range; or 60 if there is no memory. After an error the handle is as
 /// before.
 #[unsafe(no_mangle)]
 pub extern "C" fn wf_path_make(alloc: Global, path: &mut PathSlot, settings: &Settings) -> i32

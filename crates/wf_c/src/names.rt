@@ -44,8 +44,8 @@ fn word_of_code(code: u32) -> &'static [u8]
     ensures short { length result.now ≤ 15 }
 {
     match code {
-        1..=39 => word_of_refusal(code),
-        51..=58 => word_of_block(code),
+        1..=59 => word_of_refusal(code),
+        71..=78 => word_of_block(code),
         101..=132 => b"bad-setting",
         _ => word_of_own(code),
     }
@@ -62,46 +62,46 @@ fn word_of_refusal(code: u32) -> &'static [u8]
     }
 }
 
-// The word for why octets are not a BlockAck, 51 to 58.
+// The word for why octets are not a BlockAck, 71 to 78.
 fn word_of_block(code: u32) -> &'static [u8]
     ensures word { result.now ≡ block_word code }
     ensures short { length result.now ≤ 15 }
 {
     match code {
-        51 => b"block-length",
-        52 => b"block-kind",
-        53 => b"block-basic",
-        54 => b"block-multi",
-        55 => b"block-fragment",
-        56 => b"block-narrow",
-        57 => b"not-mine",
-        58 => b"wrong-tid",
+        71 => b"block-length",
+        72 => b"block-kind",
+        73 => b"block-basic",
+        74 => b"block-multi",
+        75 => b"block-fragment",
+        76 => b"block-narrow",
+        77 => b"not-mine",
+        78 => b"wrong-tid",
         _ => UNKNOWN,
     }
 }
 
-// The word for another code, 0 and 40 to 49.
+// The word for another code, 0 and 60 to 69.
 fn word_of_own(code: u32) -> &'static [u8]
     ensures word { result.now ≡ own_word code }
     ensures short { length result.now ≤ 15 }
 {
     match code {
         0 => b"ok",
-        40 => b"no-memory",
-        41 => b"bad-length",
-        42 => b"small-buffer",
-        43 => b"bad-call",
-        44 => b"bad-address",
-        45 => b"no-body",
-        46 => b"bad-aid",
-        47 => b"bad-class",
-        48 => b"bad-outcome",
-        49 => b"in-use",
+        60 => b"no-memory",
+        61 => b"bad-length",
+        62 => b"small-buffer",
+        63 => b"bad-call",
+        64 => b"bad-address",
+        65 => b"no-body",
+        66 => b"bad-aid",
+        67 => b"bad-class",
+        68 => b"bad-outcome",
+        69 => b"in-use",
         _ => UNKNOWN,
     }
 }
 
-/// Writes the word for a kind of answer, 0 to 23, the first word of its line in a trace; `?` for any other
+/// Writes the word for a kind of answer, 0 to 27, the first word of its line in a trace; `?` for any other
 /// number.
 #[unsafe(no_mangle)]
 pub extern "C" fn wf_kind_name(kind: i32, name: &mut [u8; 16])
@@ -145,6 +145,10 @@ fn word_of_kind(kind: u32) -> &'static [u8]
         21 => b"begun",
         22 => b"freed",
         23 => b"ceased",
+        24 => b"queued",
+        25 => b"beacon",
+        26 => b"gsend",
+        27 => b"gdone",
         _ => UNKNOWN,
     }
 }
@@ -173,7 +177,7 @@ fn word_of_fate(fate: u32) -> &'static [u8]
     }
 }
 
-/// Writes the word for a setting, by its place, 1 to 25; `?` for any other number.
+/// Writes the word for a setting, by its place, 1 to 27; `?` for any other number.
 #[unsafe(no_mangle)]
 pub extern "C" fn wf_setting_name(place: i32, name: &mut [u8; 16])
     ensures { name.new ≡ name_text (word_at setting_word_at place) }

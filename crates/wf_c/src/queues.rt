@@ -31,6 +31,8 @@ pub struct Codel {
     pub drop_count: u32,
     /// 1 if frames are dropped at the times of the control law, else 0.
     pub dropping: u32,
+    /// The number of frames that CoDel dropped from the queue since the start, at most 4,294,967,295.
+    pub dropped: u64,
 }
 
 impl Held {
@@ -61,6 +63,7 @@ impl Held {
             drop_next: codel.drop_next(),
             drop_count: codel.count(),
             dropping: count_of_flag(codel.is_dropping()),
+            dropped: u64::from(codel.dropped()),
         })
     }
 
@@ -126,7 +129,7 @@ pub extern "C" fn wf_path_codel(path: &mut PathSlot, queue: u32, codel: &mut Cod
     }
 }
 
-/// Writes the computed airtime of a live station's open exchanges in a class, in microseconds. Returns 0; 47
+/// Writes the computed airtime of a live station's open exchanges in a class, in microseconds. Returns 0; 67
 /// if the class is above 3; or 11 if the station is not live. After an error it writes nothing.
 #[unsafe(no_mangle)]
 pub extern "C" fn wf_path_pending(

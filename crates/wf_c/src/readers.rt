@@ -9,13 +9,13 @@ ghost use Rattle.wf_frame.specs.declared.notes.Note.TheVariants.{Asked};
 ghost use Rattle.wf_def_agreement.specs.Session.{waiting_numbers};
 ghost use Rattle.wf_def_world.specs.FlowQueues.{frames_queued};
 ghost use Rattle.wf_def_world.specs.Refusals.{refusal};
-ghost use Rattle.wf_def_world.specs.Text.{traffic_map};
 ghost use Rattle.wf_def_world.specs.World.{World, is_live, rotation, session};
 ghost use Rattle.wf_send_half.specs.Half.{IsLive};
 ghost use Rattle.wf_send_half_model.specs.Standing.{StandsFor, counts_in};
 ghost use Rattle.wf_send_half.specs.Listed.{list_of};
-ghost use Rattle.wf_path.specs.Traffic.{aids_shown};
+ghost use Rattle.wf_path.specs.Traffic.{tim_shown};
 ghost use Rattle.wf_c.specs.Calls.{HoldsFor, HoldsSmall, addresses_held};
+ghost use Rattle.wf_c.specs.Groups.{tim_given};
 ghost use Rattle.wf_c.specs.Numbers.{class_shown, flag_of, list_number};
 ghost use Rattle.wf_c.specs.Shares.{ShowsShare, counts_shown, session_code, session_fault, share_code};
 
@@ -24,6 +24,7 @@ use crate::held::Held;
 use crate::reply::refusal_code;
 use crate::slot::PathSlot;
 use wf_frame::{Class, Refusal};
+use wf_octets::tim::Tim;
 use wf_rotation::Side;
 
 /// How many frames were accepted, and how many of them have each fate.
@@ -144,7 +145,7 @@ impl Held {
     }
 }
 
-/// Writes a live station's airtime in a class. Returns 0; 47 if the class is above 3; or 11 if the station is
+/// Writes a live station's airtime in a class. Returns 0; 67 if the class is above 3; or 11 if the station is
 /// not live. After an error it writes nothing.
 #[unsafe(no_mangle)]
 pub extern "C" fn wf_path_share(
@@ -336,15 +337,35 @@ pub extern "C" fn wf_path_waiting(
     }
 }
 
-/// Writes the TIM element (IEEE 802.11-2012, 8.4.2.7) of the live stations that sleep and have traffic, and
-/// returns its size in octets.
+// The fields of a TIM element that a caller gives.
+pub(crate) fn given_tim(count: u8, period: u8, group: u8) -> Tim
+    ensures { result ≡ tim_given count period group }
+{
+    Tim {
+        count,
+        period,
+        group: group != 0,
+    }
+}
+
+/// Writes the TIM element (IEEE 802.11-2012, 8.4.2.7) of the live stations that sleep and have traffic, with
+/// this DTIM count, this DTIM period in beacons, and the bit for group frames if `group` is not 0. Returns
+/// its size in octets.
 #[unsafe(no_mangle)]
-pub extern "C" fn wf_path_tim(path: &mut PathSlot, out: &mut [u8; 256]) -> usize
+pub extern "C" fn wf_path_tim(
+    path: &mut PathSlot,
+    count: u8,
+    period: u8,
+    group: u8,
+    out: &mut [u8; 256],
+) -> usize
     requires open { is_some path.old.value ≡ true }
     ensures octets { (w : World) (bodies : ℕ → FrameValue) → HoldsFor path.old.value w bodies →
-        take result out.new ≡ traffic_map (aids_shown (addresses_held path.old.value) None w) }
+        take result out.new ≡ tim_shown (tim_given count period group)
+        (addresses_held path.old.value) None w }
     ensures rest { drop result out.new ≡ drop result out.old }
     ensures unchanged { path.new.value ≡ path.old.value }
 {
-    path.held().path.tim(out)
+    let tim = given_tim(count, period, group);
+    path.held().path.tim_with(tim, None, out)
 }

@@ -3,10 +3,10 @@
 ghost use Rattle.std.specs.Prelude.{◌≡◌, pos, true};
 ghost use Rattle.wf_frame.specs.Classes.{class_number};
 ghost use Rattle.wf_frame.specs.Refusals.{refusal_number};
-ghost use Rattle.wf_frame.specs.declared.answers.Brief.TheVariants.{Send, Done, Reaped};
+ghost use Rattle.wf_frame.specs.declared.answers.Brief.TheVariants.{Send, Done, Reaped, Group};
 ghost use Rattle.wf_c.specs.Numbers.{blank, flag_of, is_batch_kind, is_kind_alone, is_plain_kind, numbers_of, with_refusal, with_dropped, with_request_start};
 
-use wf_frame::{Brief, Class, Fate, Kind, Refusal};
+use wf_frame::{Brief, Class, Fate, GroupReply, Kind, Refusal};
 
 /// The answer to a call. `kind` says which answer it is, and which other fields have a meaning; all others
 /// are 0.
@@ -15,7 +15,7 @@ use wf_frame::{Brief, Class, Fate, Kind, Refusal};
 pub struct Reply {
     /// The exchange to send.
     pub exchange: u64,
-    /// The id of the frame that was accepted or reaped.
+    /// The id of the frame that was accepted or reaped, or of the group frame.
     pub id: u64,
     /// The id of the frame that was dropped because the flow queues were full, if `has_dropped` is 1.
     pub dropped: u64,
@@ -23,15 +23,16 @@ pub struct Reply {
     pub now: u64,
     /// The deficit after the charge, in microseconds; for the refusal `Debt` the unchanged one.
     pub deficit: i64,
-    /// The airtime of the exchange to send, in microseconds; for the refusal `Ahead` that in flight.
+    /// The airtime of the exchange or of the group frame to send, in microseconds; for the refusal `Ahead`
+    /// that in flight.
     pub air: u32,
-    /// The number of frames that a leave, a flush or the end of an agreement dropped; for a refusal, how many
-    /// are open, inside, queued or waiting.
+    /// The number of frames that a leave, a flush or the end of an agreement dropped; the DTIM count; for a
+    /// refusal, how many are open, inside, queued or waiting.
     pub count: u32,
     /// The station to send to.
     pub station: u16,
-    /// The start of the BlockAckReq to send, if `request` is 1, or of the agreement that may begin: 0 to
-    /// 4095.
+    /// The start of the BlockAckReq to send, if `request` is 1, or of the agreement that may begin, or the
+    /// sequence number of the group frame to send: 0 to 4095.
     pub start: u16,
     /// The number of the exchange's frames that are acknowledged.
     pub acked: u16,
@@ -39,9 +40,9 @@ pub struct Reply {
     pub waiting: u16,
     /// The number of its frames that are dropped.
     pub failed: u16,
-    /// The kind of answer: 0 to 23.
+    /// The kind of answer: 0 to 27.
     pub kind: u8,
-    /// Why the call was refused: 1 to 39, or 0 if it was not.
+    /// Why the call was refused: 1 to 41, or 0 if it was not.
     pub refusal: u8,
     /// The TID to send for: 0 to 7.
     pub tid: u8,
@@ -53,7 +54,8 @@ pub struct Reply {
     pub has_dropped: u8,
     /// 1 if the exchange sends a BlockAckReq instead of frames, else 0.
     pub request: u8,
-    /// 1 if the station has more to be sent (the More Data bit), else 0.
+    /// 1 if the station has more to be sent or another group frame follows (the More Data bit), or if the
+    /// beacon announces group frames, else 0.
     pub more: u8,
     /// 1 if the exchange sends frames that the station's device numbers, else 0.
     pub batch: u8,
@@ -125,6 +127,7 @@ impl Reply {
                 ..of_kind(20)
             },
             Brief::Ceased { dropped } => dropping(23, dropped),
+            Brief::Group(answer) => of_group(answer),
             Brief::Refused(refusal) => refused(refusal),
             brief => alone(brief),
         }
@@ -259,6 +262,33 @@ fn reaped(id: u64, fate: Fate) -> Reply
     }
 }
 
+// The answer to a call about group frames.
+fn of_group(answer: GroupReply) -> Reply
+    ensures { result ≡ numbers_of (Group answer) }
+{
+    match answer {
+        GroupReply::Queued { id } => Reply { id, ..of_kind(24) },
+        GroupReply::Beacon { count, follows } => Reply {
+            count: u32::from(count),
+            more: u8::from(follows),
+            ..of_kind(25)
+        },
+        GroupReply::Send {
+            id,
+            number,
+            air,
+            more,
+        } => Reply {
+            id,
+            start: number,
+            air,
+            more: u8::from(more),
+            ..of_kind(26)
+        },
+        GroupReply::Done { id } => Reply { id, ..of_kind(27) },
+    }
+}
+
 // The answer to a refused call.
 fn refused(refusal: Refusal) -> Reply
     ensures { result ≡ with_refusal refusal (record blank { kind = 14; refusal = refusal_number refusal }) }
@@ -282,6 +312,10 @@ fn refused(refusal: Refusal) -> Reply
         Refusal::Debt { deficit } => Reply { deficit, ..reply },
         Refusal::Ahead { owed } => Reply { air: owed, ..reply },
         Refusal::Waits { count } => Reply { count, ..reply },
+        Refusal::Buffered { queued } => Reply {
+            count: queued,
+            ..reply
+        },
         // end refusals
         _ => reply,
     }

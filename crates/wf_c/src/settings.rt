@@ -7,7 +7,7 @@ ghost use Rattle.wf_c.specs.Making.{bad_place, config_of, first_set};
 use wf_frame::Config;
 
 // The place of the first reserved number: it follows the settings.
-const FIRST_RESERVED: u8 = 26;
+const FIRST_RESERVED: u8 = 28;
 
 /// The settings of a path: those of `wf_frame::Config`, in its order, with the same units and ranges.
 #[repr(C)]
@@ -39,9 +39,11 @@ pub struct Settings {
     pub answers: u32,
     pub credits: u32,
     pub legacy: u32,
+    pub period: u32,
+    pub buffered: u32,
     // end fields
     /// Room for later settings: each has to be 0.
-    pub reserved: [u32; 7],
+    pub reserved: [u32; 5],
 }
 
 impl Settings {
@@ -76,6 +78,8 @@ impl Settings {
             answers: self.answers,
             credits: self.credits,
             legacy: self.legacy,
+            period: self.period,
+            buffered: self.buffered,
             // end config
         }
     }
@@ -104,7 +108,7 @@ impl Settings {
     // The index of the first reserved number that is not 0.
     fn first_set(&self) -> Option<usize>
         ensures index { result ≡ position (λ number. not (number == 0)) self.now.reserved }
-        ensures inside { IfSome result (λ i. i < 7) }
+        ensures inside { IfSome result (λ i. i < 5) }
     {
         self.reserved.iter().position(|number| *number != 0)
     }
@@ -113,7 +117,7 @@ impl Settings {
 // The settings as the caller's struct has them.
 fn shown(config: &Config) -> Settings
     ensures config { config_of result ≡ config.now }
-    ensures reserved { result.reserved ≡ replicate 7 0 }
+    ensures reserved { result.reserved ≡ replicate 5 0 }
 {
     Settings {
         // begin shown: tools/tables writes these lines
@@ -142,8 +146,10 @@ fn shown(config: &Config) -> Settings
         answers: config.answers,
         credits: config.credits,
         legacy: config.legacy,
+        period: config.period,
+        buffered: config.buffered,
         // end shown
-        reserved: [0; 7],
+        reserved: [0; 5],
     }
 }
 
@@ -151,7 +157,7 @@ fn shown(config: &Config) -> Settings
 #[unsafe(no_mangle)]
 pub extern "C" fn wf_settings_standard(settings: &mut Settings)
     ensures config { config_of settings.new ≡ standard }
-    ensures reserved { settings.new.reserved ≡ replicate 7 0 }
+    ensures reserved { settings.new.reserved ≡ replicate 5 0 }
 {
     *settings = shown(&Config::standard());
 }
@@ -160,7 +166,7 @@ pub extern "C" fn wf_settings_standard(settings: &mut Settings)
 #[unsafe(no_mangle)]
 pub extern "C" fn wf_settings_device(settings: &mut Settings)
     ensures config { config_of settings.new ≡ device }
-    ensures reserved { settings.new.reserved ≡ replicate 7 0 }
+    ensures reserved { settings.new.reserved ≡ replicate 5 0 }
 {
     *settings = shown(&Config::device());
 }

@@ -24,7 +24,7 @@ impl CellSlot {
     }
 }
 
-/// Makes a call that neither enqueues nor reaps a frame. Returns its refusal, or 0; or 43 if the numbers do
+/// Makes a call that neither enqueues nor reaps a frame. Returns its refusal, or 0; or 63 if the numbers do
 /// not show such a call, and then nothing has changed.
 #[unsafe(no_mangle)]
 pub extern "C" fn wf_cell_ask(

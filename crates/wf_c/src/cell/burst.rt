@@ -85,8 +85,8 @@ impl HeldCell {
 
 /// Makes calls in order, each reply at its place, up to the first that is not made. An enqueue is of a frame
 /// whose octets stay with its owner; a reaped frame is freed. `made` is how many were made. Returns 0 if all
-/// were; 43 for numbers that show no call; 26 if the history is full; 41 for an enqueue of a length that no
-/// frame has; 40 if there is no memory; or 42 if there are fewer replies than calls, and then no call is
+/// were; 63 for numbers that show no call; 26 if the history is full; 61 for an enqueue of a length that no
+/// frame has; 60 if there is no memory; or 62 if there are fewer replies than calls, and then no call is
 /// made.
 #[unsafe(no_mangle)]
 pub extern "C" fn wf_cell_burst(

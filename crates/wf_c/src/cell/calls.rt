@@ -3,13 +3,13 @@
 ghost use Rattle.std.specs.Prelude.{◌≡◌, length, map};
 ghost use Rattle.wf_frame.specs.Classes.{all_classes, class_among};
 ghost use Rattle.wf_frame.specs.Calls.{arguments_of, form_number, form_of_end, form_of_limits, note_form};
-ghost use Rattle.wf_c.specs.CallNumbers.{asked, blank_call, form_shown, format_number, format_shown, note_in, call_noted, numbers_of_call, form_of_class, form_of_format, value_in, with_argument, with_arguments, without_frame};
+ghost use Rattle.wf_c.specs.CallNumbers.{asked, blank_call, form_shown, format_number, format_shown, note_in, call_noted, numbers_of_call, form_of_class, form_of_format, form_of_length, value_in, with_argument, with_arguments, without_frame};
 ghost use Rattle.wf_c.specs.Numbers.{given_number as number_given};
 
 use crate::exchanges::given_number;
 use crate::reply::number_of_class;
 use arrayvec::ArrayVec;
-use wf_frame::{Argument, Ask, CallForm, Class, Note, RateFormat, Value};
+use wf_frame::{Argument, Ask, CallForm, Class, GREATEST_BODY, Note, RateFormat, Value};
 
 /// A call. `kind` says which call it is, and which other fields have a meaning; in an entry all others are 0.
 #[repr(C)]
@@ -36,11 +36,11 @@ pub struct CallNumbers {
     pub start: u16,
     /// The index of a transmission of the exchange, from 0 on.
     pub index: u16,
-    /// The length of a frame's body, in octets.
+    /// The length of the body of a frame or of a group frame, in octets.
     pub length: u16,
     /// The guard interval of a rate of HE, in nanoseconds.
     pub guard: u16,
-    /// The kind of call: 0 to 26.
+    /// The kind of call: 0 to 30.
     pub kind: u8,
     /// The TID of a frame, of a flush or of an agreement.
     pub tid: u8,
@@ -161,6 +161,17 @@ fn form_of_class(form: CallForm, class: u8) -> Option<CallForm>
     if 3 < class { None } else { Some(form) }
 }
 
+// The form of a call that brings a body, by the length of the body in octets. None if no body has this
+// length.
+fn form_of_length(form: CallForm, len: u16) -> Option<CallForm>
+    ensures { result ≡ form_of_length form len }
+{
+    match len {
+        1..=GREATEST_BODY => Some(form),
+        _ => None,
+    }
+}
+
 // The class that a field shows; a number above 3 shows the last one.
 fn class_of_field(number: u8) -> Class
     ensures { result ≡ class_among all_classes number }
@@ -248,6 +259,7 @@ impl CallNumbers {
             CallForm::Done => Some(form_of_end(self.air)),
             CallForm::Pull => form_of_class(form_of_limits(self.frames, self.air), self.class),
             CallForm::Rx => form_of_class(CallForm::Rx, self.class),
+            CallForm::Group => form_of_length(CallForm::Group, self.length),
             call => Some(call),
         }
     }

@@ -40,8 +40,8 @@ impl HeldCell {
     }
 }
 
-/// Accepts a packet for a station as a frame. Returns 0; 41 if the body is empty or longer than 2304 octets;
-/// 40 if there is no memory for the frame; or the refusal of the call. After 40 and 41 nothing has changed.
+/// Accepts a packet for a station as a frame. Returns 0; 61 if the body is empty or longer than 2304 octets;
+/// 60 if there is no memory for the frame; or the refusal of the call. After 60 and 61 nothing has changed.
 #[unsafe(no_mangle)]
 pub extern "C" fn wf_cell_enqueue(
     alloc: Global,
@@ -69,8 +69,8 @@ pub extern "C" fn wf_cell_enqueue(
     }
 }
 
-/// Accepts a packet for a station as a frame, without its octets. Returns 0; 41 if the length is 0 or above
-/// 2304; 40 if there is no memory for the frame; or the refusal of the call. After 40 and 41 nothing has
+/// Accepts a packet for a station as a frame, without its octets. Returns 0; 61 if the length is 0 or above
+/// 2304; 60 if there is no memory for the frame; or the refusal of the call. After 60 and 61 nothing has
 /// changed.
 #[unsafe(no_mangle)]
 pub extern "C" fn wf_cell_enqueue_bare(
@@ -102,7 +102,7 @@ pub extern "C" fn wf_cell_enqueue_bare(
 }
 
 /// Takes out the first finished frame, and copies its body to the front of a buffer. A buffer of 0 octets
-/// gets no body, and a bare frame changes no buffer. Returns the refusal, or 0; or 42 if the buffer has some
+/// gets no body, and a bare frame changes no buffer. Returns the refusal, or 0; or 62 if the buffer has some
 /// room, but not for the longest body, and then nothing has changed.
 #[unsafe(no_mangle)]
 pub extern "C" fn wf_cell_reap(

@@ -13,8 +13,8 @@ use crate::settings::Settings;
 use std::alloc::Global;
 
 /// Makes a cell with these settings in an empty handle: no station is live, and no call was made. Returns 0;
-/// 49 if the handle holds a cell already; 100 plus the place of the first setting that is out of its range;
-/// or 40 if there is no memory. After an error the handle is as before.
+/// 69 if the handle holds a cell already; 100 plus the place of the first setting that is out of its range;
+/// or 60 if there is no memory. After an error the handle is as before.
 #[unsafe(no_mangle)]
 pub extern "C" fn wf_cell_make(alloc: Global, cell: &mut CellSlot, settings: &Settings) -> i32
     ensures in_use { is_some cell.old.value ≡ true →

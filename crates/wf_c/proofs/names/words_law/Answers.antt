@@ -8,6 +8,7 @@ use Rattle.wf_frame.specs.declared.answers.Brief.TheVariants as brief
 use Rattle.wf_frame.specs.declared.classes.Cause.TheVariants.{Overlimit, Codel, Retries, Left, Flushed, Ended}
 use Rattle.wf_frame.specs.declared.classes.Fate.{Fate}
 use Rattle.wf_frame.specs.declared.classes.Fate.TheVariants.{Held, Acked, Dropped}
+use Rattle.wf_frame.specs.declared.notes.GroupReply.TheVariants as group
 use Rattle.wf_frame.specs.declared.notes.Refusal.{Refusal}
 use Rattle.wf_frame.specs.declared.notes.Refusal.TheVariants as refusal
 use Rattle.wf_frame.specs.Classes.{fate_number, fate_word}
@@ -49,6 +50,10 @@ kinds_are (brief.Held start) pairs ids = refl
 kinds_are Begun pairs ids = refl
 kinds_are Freed pairs ids = refl
 kinds_are (brief.Ceased dropped) pairs ids = refl
+kinds_are (brief.Group (group.Queued id)) pairs ids = refl
+kinds_are (brief.Group (group.Beacon count follows)) pairs ids = refl
+kinds_are (brief.Group (group.Send id number air more)) pairs ids = refl
+kinds_are (brief.Group (group.Done id)) pairs ids = refl
 -- begin refusals: tools/tables writes these lines
 kinds_are (Refused (refusal.Open count)) pairs ids = refl
 kinds_are (Refused (refusal.Room inside)) pairs ids = refl
@@ -57,6 +62,7 @@ kinds_are (Refused (refusal.Full count)) pairs ids = refl
 kinds_are (Refused (refusal.Debt deficit)) pairs ids = refl
 kinds_are (Refused (refusal.Ahead owed)) pairs ids = refl
 kinds_are (Refused (refusal.Waits count)) pairs ids = refl
+kinds_are (Refused (refusal.Buffered queued)) pairs ids = refl
 -- end refusals
 kinds_are (Refused _) pairs ids = refl
 
