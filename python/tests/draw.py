@@ -13,6 +13,7 @@ from wfpath import (
     Cell,
     Exchange,
     Fate,
+    GroupSend,
     Outcome,
     Path,
     Rate,
@@ -30,25 +31,31 @@ STATIONS, CHARGE, TICK = 6, 5000, 10_000_000
 CLASS_OF = [AccessClass(class_) for class_ in (1, 0, 0, 1, 2, 2, 3, 3)]
 SETTINGS = {"stations": STATIONS, "flows": 32, "limit": 40, "room": 400, "attempts": 4, "sleeping": 8}
 SETTINGS["charge"] = CHARGE
-# Whether calls on agreements have rates of OFDM and DSSS too. The setting for them replaces `codel_reset`.
+# Whether calls on agreements have rates of OFDM and DSSS too. Their seeds leave out `codel_reset`, `cap_vi` and `cap_vo`, and the others
+# `answers`.
 HAS_LEGACY = "legacy" in RANGES
-# Rules that are off in the standard settings, as far as the library has them: these for every second seed, and
+# Rules that are off in the standard settings, if the library has them: these for every second seed, and
 # OTHERS for the seeds between. A head has no room for all.
 RULES = {"aql_total": 1500, "debt": 20000, "keep_order": 1, "codel_reset": 1, "aql": 1200, "pending": 1}
 OTHERS = {"overhead": 8, "cap_vi": 2000, "cap_vo": 1000, "answers": 1, "credits": 1}
+# Calls about group frames, for the seeds of OTHERS.
+GROUPS = {"period": 2, "buffered": 5}
+BROADCAST = bytes([255] * 6)
 WORDS = {"join": "joined", "set_rate": "set", "sleep": "slept", "wake": "woken"}
 WORDS |= {"set_ampdu": "set", "stop": "stopped", "start": "started", "unsent": "marked", "give_up": "marked"}
 WORDS |= {"join_offload": "joined", "set_weight": "set", "plain": "joined", "begin": "begun", "free": "freed"}
+GROUP_KINDS = (CallKind.GROUP, CallKind.GROUP, CallKind.BEACON, CallKind.GPULL, CallKind.GDONE)
 # Numbers with the words before them, by method. A path does not know what a station passed up when its agreement ended.
-COUNTS = {"leave": "left", "flush": "flushed", "tick": "now", "rx": "charged", "hold": "held"}
+COUNTS = {"leave": "left", "flush": "flushed", "tick": "now", "rx": "charged", "hold": "held", "group": "queued"}
 
 
 def settings_of(seed: int, agreements: bool) -> dict[str, int]:
     """Returns the settings for a seed."""
-    rules = {name: value for name, value in (OTHERS if seed % 2 else RULES).items() if name in RANGES}
+    rules = {name: value for name, value in ({**OTHERS, **GROUPS} if seed % 2 else RULES).items() if name in RANGES}
     if agreements and HAS_LEGACY:
         rules["legacy"] = 2
-        rules.pop("codel_reset", None)
+    for name in ("codel_reset", "cap_vi", "cap_vo") if agreements else ("answers",):
+        rules.pop(name, None)
     return {**SETTINGS, **rules}
 
 
@@ -58,6 +65,8 @@ def answer_of(name: str, value: Any) -> str:
         return WORDS[name]
     if name in COUNTS:
         return f"{COUNTS[name]} {value}"
+    if name == "group_done" and isinstance(value, int):
+        return f"gdone {value}"
     if name == "cease" and isinstance(value, int):
         return f"ceased {value}"
     if name == "poll":
@@ -78,6 +87,10 @@ def reply_line(reply: tables.ReplyStruct) -> str:
         Kind.CHARGED: f"charged {reply.deficit}",
         Kind.REAPED: f"reaped {reply.id} {Fate(reply.fate).word}",
         Kind.HELD: f"held {reply.start}",
+        Kind.QUEUED: f"queued {reply.id}",
+        Kind.BEACON: f"beacon {reply.count} {reply.more}",
+        Kind.GSEND: str(GroupSend(reply.id, reply.start, reply.air, reply.more != 0)),
+        Kind.GDONE: f"gdone {reply.id}",
     }
     kind = Kind(reply.kind)
     if kind == Kind.REFUSED:
@@ -95,6 +108,7 @@ class Draw:
         self.random = random.Random(seed)
         self.handle = handle
         self.agreements = agreements
+        self.has_groups = handle.settings.buffered > 0
         self.lines: list[str] = [trace.head(handle.settings)]
         self.answers: list[str | None] = []
 
@@ -176,7 +190,7 @@ class Draw:
             assert frame.body is None or frame.length >= 50 or frame.body[0] == frame.flow
 
     def burst(self, most: int) -> None:
-        """A burst of at most so many calls. Its frames have the tag 0."""
+        """A burst of at most `most` calls. Its frames have the tag 0."""
         drawn = [self.drawn(self.station()) for _ in range(1 + self.below(most))]
         made = self.handle.burst([call for call, _ in drawn])
         assert made.error is None and len(made.replies) == len(drawn)
@@ -188,7 +202,7 @@ class Draw:
         if self.agreements and self.below(3) == 0:
             return self.drawn_agreement(station)
         kinds = (CallKind.ENQUEUE, CallKind.REAP, CallKind.TICK, CallKind.RX, CallKind.POLL, CallKind.FLUSH)
-        kind = self.random.choice(kinds)
+        kind = self.random.choice(kinds + GROUP_KINDS if self.has_groups else kinds)
         call, class_ = Call(kind), AccessClass(self.below(4))
         made = call.struct
         made.station, made.tid, made.flow, made.length = station, self.below(9), self.below(20), 1 + self.below(300)
@@ -199,8 +213,9 @@ class Draw:
             CallKind.RX: f"rx {station} {class_.word} {made.air}",
             CallKind.POLL: f"poll {station}",
             CallKind.FLUSH: f"flush {station} {made.tid}",
+            CallKind.GROUP: f"group {made.length}",
         }
-        return call, lines.get(kind, "reap")
+        return call, lines.get(kind, kind.word)
 
     def drawn_agreement(self, station: int) -> tuple[Call, str]:
         """A call of a burst on an agreement, and its line."""
@@ -228,6 +243,18 @@ class Draw:
             self.call(f"begin {station} {tid} {window}", "begin", station, tid, window)
         else:
             self.call(f"{name} {station} {tid}", name, station, tid)
+
+    def group(self) -> None:
+        """A call about group frames."""
+        length, name = 1 + self.below(2304), self.random.choice(("group", "group", "beacon", "group_pull", "group_done"))
+        if name == "group":
+            self.call(f"group {length}", "group", *self.group_arguments(length))
+        else:
+            self.call(name.replace("group_", "g"), name)
+
+    def group_arguments(self, length: int) -> tuple[Any, ...]:
+        """The arguments of the method `group`."""
+        return (length,)
 
     def other(self, station: int) -> None:
         """One of the other calls."""
@@ -267,7 +294,9 @@ class Draw:
     def common(self, which: int) -> None:
         """A call that a path and a cell have; `which` is below 66."""
         station = self.station()
-        if which < 36:
+        if self.has_groups and self.below(6) == 0:
+            self.group()
+        elif which < 36:
             self.enqueue(station)
         elif which < 54:
             self.reap()
@@ -315,6 +344,10 @@ class PathDraw(Draw):
             exchange = self.open.pop(self.below(len(self.open)))
             self.finish(exchange)
             self.look_at(exchange.station, exchange.tid)
+
+    def group_arguments(self, length: int) -> tuple[Any, ...]:
+        """The tag of a group frame is its length."""
+        return BROADCAST, length, length
 
     def look_at(self, station: int, tid: int) -> None:
         """A look at the numbers of a TID, at its queued frames, and at the airtime in flight of its class."""
@@ -451,7 +484,13 @@ class PathDraw(Draw):
                 if share.charged or share.rx:
                     said = f"charged {share.charged} rx {share.rx} deficit {share.deficit}"
                     self.answers.append(f"sta {station} {class_.word} {said}")
-        self.answers.append(f"tim {path.tim().hex()}")
+        if self.has_groups:
+            groups = path.group_counts()
+            self.answers.append(f"group {groups.accepted} sent {groups.sent} held {groups.held} air {groups.air}")
+        latest = [answer.split()[1:] for answer in self.answers if answer and answer.startswith("beacon ")]
+        count, follows = map(int, latest[-1] if latest else (0, 0))
+        tim = path.tim(count, max(1, path.settings.period), follows == 1)
+        self.answers.append(f"tim {tim.hex()}")
 
 
 class CellDraw(Draw):
@@ -466,7 +505,7 @@ class CellDraw(Draw):
         self.lines.append("end")
 
     def step(self, most: int) -> None:
-        """A call, or a burst of at most so many."""
+        """A call, or a burst of at most `most` calls."""
         which = self.below(200)
         if self.agreements and self.below(8) == 0:
             self.agreement()

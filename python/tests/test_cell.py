@@ -113,6 +113,19 @@ class Calls(unittest.TestCase):
             lines = [line for line in cell.trace() if line.split()[0] in ("plain", "hold", "begin", "cease", "free")]
             self.assertEqual(lines, ["plain 0 5 3 1", "hold 0 0", "begin 0 0 8", "begin 0 0 8", "cease 0 0", "free 0 0"])
 
+    def test_group_frames(self) -> None:
+        with Cell(stations=1, buffered=1, calls=40) as cell:
+            self.assertEqual(cell.group(1000), 0)
+            with self.assertRaises(errors.Buffered):
+                cell.group(1)
+            self.assertEqual(cell.beacon(), (0, True))
+            self.assertEqual(str(cell.group_pull()), "gsend 0 1 air 1396")
+            self.assertEqual(cell.group_done(), 0)
+            for length in (0, 2305):
+                with self.assertRaises(errors.BadCall):
+                    cell.group(length)
+            self.assertEqual(list(cell.trace())[1:-1], ["group 1000", "group 1", "beacon", "gpull", "gdone"])
+
     def test_numbers_that_do_not_fit_are_errors(self) -> None:
         cell = self.cell
         for call in (lambda: cell.arrive(0, 65536), lambda: cell.done(-1, True), lambda: cell.rx(0, 4, 1)):

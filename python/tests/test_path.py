@@ -15,6 +15,7 @@ from wfpath import (
     CallKind,
     Codel,
     Fate,
+    Group,
     Outcome,
     Path,
     Rate,
@@ -28,6 +29,7 @@ from wfpath._handle import C
 from wfpath.raw import Call
 
 BE = AccessClass.BE
+BROADCAST = bytes([255] * 6)
 # The package has these from the tables, or calls them when a handle is made, closed or loaded.
 NOT_CALLED = {"wf_code_name", "wf_kind_name", "wf_fate_name", "wf_setting_name", "wf_settings_standard", "wf_settings_device"}
 NOT_CALLED |= {"wf_version", "wf_path_make", "wf_path_free", "wf_cell_make", "wf_cell_free"}
@@ -321,7 +323,12 @@ class Calls(unittest.TestCase):
             lambda: self.path.done_ack(-1, True),
             lambda: self.path.set_aid(0, 65536),
             lambda: self.path.set_bss(65536, bytes(6)),
-            lambda: self.path.tim(b"12345"),
+            lambda: self.path.tim(bss=b"12345"),
+            lambda: self.path.tim(256),
+            lambda: self.path.group(b"12345", 1),
+            lambda: self.path.group(BROADCAST, 65536),
+            lambda: self.path.group(BROADCAST, 1, -1),
+            lambda: self.path.group_header(b"1"),
             lambda: self.path.octets(0, 256),
             lambda: self.path.codel(2**32),
             lambda: self.path.pending(0, 4),
@@ -353,13 +360,48 @@ class Calls(unittest.TestCase):
             path.enqueue(station, 100)
         # The bits of the AIDs 1 and 9, from the first octet that is not 0 on.
         self.assertEqual(path.tim()[5:], b"\2\2")
-        self.assertEqual((path.tim(path.base)[5:], path.tim(bss)[4:]), (b"\2", b"\0\0\2"))
-        self.assertEqual(path.tim(b"\0\0\x5e\0\x53\4"), b"\5\4\0\1\0\0")
+        self.assertEqual((path.tim(bss=path.base)[5:], path.tim(bss=bss)[4:]), (b"\2", b"\0\0\2"))
+        self.assertEqual(path.tim(bss=b"\0\0\x5e\0\x53\4"), b"\5\4\0\1\0\0")
+        self.assertEqual(path.tim(2, 3, True, bss=bss), b"\5\5\2\3\1\0\2")
         for aid in (0, 2008):
             with self.assertRaises(errors.BadAid):
                 path.set_aid(1, aid)
         with self.assertRaises(errors.BadAddress):
             path.set_bss(1, b"\1\0\0\0\0\0")
+
+    def test_group_frames_wait_for_a_dtim_beacon(self) -> None:
+        with Path(stations=1, buffered=2, period=2) as path:
+            path.join(0)
+            path.sleep(0)
+            self.assertEqual([path.group(BROADCAST, 300, tag=7), path.group(b"\1\0\x5e\0\0\1", 100)], [0, 1])
+            with self.assertRaises(errors.Buffered) as full:
+                path.group(BROADCAST, 1)
+            self.assertEqual(full.exception.line, "refused buffered 2")
+            self.assertEqual([str(path.beacon()) for _ in range(2)], ["beacon 1 0", "beacon 0 1"])
+            self.assertEqual(path.tim(0, 2, True), b"\5\4\0\2\1\0")
+            sent = path.group_pull()
+            self.assertEqual(str(sent), "gsend 0 2 air 464 more")
+            self.assertEqual(sent.frame, Group(0, 300, 7, BROADCAST))
+            source = b"\0\0\x5e\0\x53\5"
+            wanted = b"\x08\x22\0\0" + BROADCAST + path.base + source + b"\x20\0"
+            self.assertEqual(path.group_header(source), wanted)
+            with self.assertRaises(errors.Flying):
+                path.group_pull()
+            self.assertEqual(path.group_counts(), (2, 0, 1, 1, 0))
+            self.assertEqual(path.group_done(), sent.frame)
+            self.assertEqual(path.group_counts().air, 464)
+            path.beacon()
+            with self.assertRaises(errors.Idle):
+                path.group_pull()
+            for call in (path.group_done, lambda: path.group_header(source)):
+                with self.assertRaises(errors.Nothing):
+                    call()
+            with self.assertRaises(errors.BadAddress):
+                path.group(source, 100)
+            with self.assertRaises(errors.BadLength):
+                path.group(BROADCAST, 0)
+            path.wake(0)
+            self.assertEqual(path.group_pull().frame, Group(1, 100, 0, b"\1\0\x5e\0\0\1"))
 
     def test_the_readers(self) -> None:
         path = self.path
@@ -392,8 +434,8 @@ class Calls(unittest.TestCase):
             path.tick(wait)
             airs.append(path.pull(AccessClass.VI, frames=1).air)
         self.assertEqual(path.octets(0, 5), sum(range(1003, 1008)))
-        self.assertEqual(path.codel(3), Codel(path.octets(0, 5), 650_000, 1, True))
-        self.assertEqual(path.codel(1024 + 15), Codel(0, 0, 0, False))
+        self.assertEqual(path.codel(3), Codel(path.octets(0, 5), 650_000, 1, True, 1))
+        self.assertEqual(path.codel(1024 + 15), Codel(0, 0, 0, False, 0))
         self.assertEqual((path.pending(0, AccessClass.VI), path.pending(0, BE)), (sum(airs), 0))
         with self.assertRaises(errors.BadIndex):
             path.codel(1024 + 16)

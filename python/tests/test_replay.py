@@ -32,7 +32,7 @@ class Replay(unittest.TestCase):
     """Calls of a path and of a cell."""
 
     def compare(self, draw: Draw, wanted: list[str], count: int) -> None:
-        """Compares the answers with those of the replay: the first ones, which are so many."""
+        """Compares the first `count` answers with those of the replay."""
         self.assertEqual(len(draw.answers), count)
         self.assertGreaterEqual(len(wanted), count)
         for place, (found, other) in enumerate(zip(draw.answers, wanted)):

@@ -28,7 +28,23 @@ from ._tables import (
     Outcome,
     Settings,
 )
-from .answers import Accepted, Block, Burst, Ceased, Codel, Done, Exchange, Reaped, Sent, Share, Tally
+from .answers import (
+    Accepted,
+    Beacon,
+    Block,
+    Burst,
+    Ceased,
+    Codel,
+    Done,
+    Exchange,
+    Group,
+    GroupCounts,
+    GroupSend,
+    Reaped,
+    Sent,
+    Share,
+    Tally,
+)
 from .cell import Cell
 from .errors import BlockError, Refused, WfError
 from .path import Path
@@ -41,6 +57,7 @@ library_is_proved = LIBRARY.proved
 __all__ = [
     "Accepted",
     "AccessClass",
+    "Beacon",
     "Block",
     "BlockError",
     "Burst",
@@ -54,6 +71,9 @@ __all__ = [
     "Form",
     "GREATEST_BODY",
     "GREATEST_MPDU",
+    "Group",
+    "GroupCounts",
+    "GroupSend",
     "Outcome",
     "Path",
     "RANGES",

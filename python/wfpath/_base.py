@@ -6,7 +6,7 @@ from typing import ClassVar
 
 
 class WfError(Exception):
-    """The library returned a code other than 0. Each code has a class of its own (wfpath.errors).
+    """The library returned a code other than 0. Each code has its own class (wfpath.errors).
 
     `code` is its number in include/wf.h, `word` its word, and `about` says what it means.
     """

@@ -11,7 +11,7 @@ from typing import TYPE_CHECKING, Any, NoReturn, TypeVar, Union
 from . import _tables as tables
 from ._base import WfError
 from ._library import LIBRARY, error, make_error, out_of_range, settings_struct
-from .answers import FATES, Accepted, Burst, Exchange, Reaped
+from .answers import FATES, Accepted, Beacon, Burst, Exchange, GroupSend, Reaped
 from .errors import ERRORS
 from .raw import Call
 
@@ -148,6 +148,15 @@ class Handle:
         request, more = reply.request != 0, reply.more != 0
         batch, plain = reply.batch != 0, reply.plain != 0
         return Exchange(number, station, tid, air, request, reply.start, more, ids, numbers, batch, plain)
+
+    def _beacon(self) -> Beacon:
+        """Returns the answer to a beacon."""
+        return Beacon(self._reply.count, self._reply.more != 0)
+
+    def _group_send(self) -> GroupSend:
+        """Returns the answer to a pull of a group frame."""
+        reply = self._reply
+        return GroupSend(reply.id, reply.start, reply.air, reply.more != 0)
 
     def _reaped(self, has_body: bool) -> Reaped:
         """Returns the answer to a reap."""

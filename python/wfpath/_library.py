@@ -100,7 +100,7 @@ def load_from(tried: Sequence[str]) -> Library:
 
 
 class Library:
-    """The loaded library: its functions, with arguments that are checked and with others, and where it is."""
+    """The loaded library: its functions, with arguments that are checked and with others, and its file."""
 
     def __init__(self, functions: Any, quick: Any, path: str) -> None:
         self.functions = functions

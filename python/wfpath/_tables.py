@@ -10,6 +10,7 @@ VERSION = (1, 0, 0)
 GREATEST_BODY = 2304
 GREATEST_MPDU = 2330
 HEADER = 26
+GROUP_HEADER = 24
 BAD_SETTING = 100
 
 
@@ -81,6 +82,10 @@ class Kind(enum.IntEnum):
     BEGUN = 21
     FREED = 22
     CEASED = 23
+    QUEUED = 24
+    BEACON = 25
+    GSEND = 26
+    GDONE = 27
 
     @property
     def word(self) -> str:
@@ -118,6 +123,10 @@ class CallKind(enum.IntEnum):
     BEGIN = 24
     FREE = 25
     CEASE = 26
+    GROUP = 27
+    BEACON = 28
+    GPULL = 29
+    GDONE = 30
 
     @property
     def word(self) -> str:
@@ -224,6 +233,12 @@ class Settings:
     legacy: int = 0
     """Which rates a station may have: HT, VHT and HE; with 1 also OFDM; with 2 also OFDM and DSSS [0..2]."""
 
+    period: int = 0
+    """DTIM period: the number of beacons from one DTIM beacon to the next; 0 means 1 [0..255]."""
+
+    buffered: int = 0
+    """Group frames that may be queued; with 0 none is accepted [0..65535]."""
+
     @classmethod
     def device(cls, **others: int) -> Settings:
         """Returns the settings for devices, with others in their place."""
@@ -270,6 +285,8 @@ RANGES: dict[str, tuple[int, int]] = {
     "answers": (0, 1),
     "credits": (0, 1),
     "legacy": (0, 2),
+    "period": (0, 255),
+    "buffered": (0, 65535),
 }
 
 
@@ -312,9 +329,11 @@ class SettingsStruct(ctypes.Structure):
     answers: int
     credits: int
     legacy: int
+    period: int
+    buffered: int
     reserved: ctypes.Array[ctypes.c_uint32]
 
-    LAYOUT = "@IIIIIIIIIIIIIIIIIIIIIIIII7I"
+    LAYOUT = "@IIIIIIIIIIIIIIIIIIIIIIIIIII5I"
     _fields_ = [
         ("stations", ctypes.c_uint32),
         ("flows", ctypes.c_uint32),
@@ -341,7 +360,9 @@ class SettingsStruct(ctypes.Structure):
         ("answers", ctypes.c_uint32),
         ("credits", ctypes.c_uint32),
         ("legacy", ctypes.c_uint32),
-        ("reserved", ctypes.c_uint32 * 7),
+        ("period", ctypes.c_uint32),
+        ("buffered", ctypes.c_uint32),
+        ("reserved", ctypes.c_uint32 * 5),
     ]
 
 
@@ -501,6 +522,44 @@ class TakenStruct(ctypes.Structure):
     ]
 
 
+class GroupStruct(ctypes.Structure):
+    """struct wf_group; LAYOUT is its format for the module struct."""
+
+    id: int
+    tag: int
+    length: int
+    to: ctypes.Array[ctypes.c_uint8]
+
+    LAYOUT = "@QQH6s"
+    _fields_ = [
+        ("id", ctypes.c_uint64),
+        ("tag", ctypes.c_uint64),
+        ("length", ctypes.c_uint16),
+        ("to", ctypes.c_uint8 * 6),
+    ]
+
+
+class GroupCountsStruct(ctypes.Structure):
+    """struct wf_group_counts; LAYOUT is its format for the module struct."""
+
+    accepted: int
+    sent: int
+    air: int
+    numbers: int
+    queued: int
+    flying: int
+
+    LAYOUT = "@QQQQII"
+    _fields_ = [
+        ("accepted", ctypes.c_uint64),
+        ("sent", ctypes.c_uint64),
+        ("air", ctypes.c_uint64),
+        ("numbers", ctypes.c_uint64),
+        ("queued", ctypes.c_uint32),
+        ("flying", ctypes.c_uint32),
+    ]
+
+
 class TallyStruct(ctypes.Structure):
     """struct wf_tally; LAYOUT is its format for the module struct."""
 
@@ -548,13 +607,15 @@ class CodelStruct(ctypes.Structure):
     drop_next: int
     drop_count: int
     dropping: int
+    dropped: int
 
-    LAYOUT = "@QQII"
+    LAYOUT = "@QQIIQ"
     _fields_ = [
         ("octets", ctypes.c_uint64),
         ("drop_next", ctypes.c_uint64),
         ("drop_count", ctypes.c_uint32),
         ("dropping", ctypes.c_uint32),
+        ("dropped", ctypes.c_uint64),
     ]
 
 
@@ -970,6 +1031,35 @@ FUNCTIONS: dict[str, tuple[Any, tuple[Any, ...]]] = {
             ctypes.POINTER(ctypes.c_size_t),
         ),
     ),
+    "wf_path_group": (
+        ctypes.c_int32,
+        (
+            ctypes.POINTER(PathStruct),
+            ctypes.c_char_p,
+            ctypes.c_uint16,
+            ctypes.c_uint64,
+            ctypes.POINTER(ReplyStruct),
+        ),
+    ),
+    "wf_path_beacon": (ctypes.c_int32, (ctypes.POINTER(PathStruct), ctypes.POINTER(ReplyStruct),)),
+    "wf_path_group_pull": (
+        ctypes.c_int32,
+        (
+            ctypes.POINTER(PathStruct),
+            ctypes.POINTER(GroupStruct),
+            ctypes.POINTER(ReplyStruct),
+        ),
+    ),
+    "wf_path_group_header": (ctypes.c_int32, (ctypes.POINTER(PathStruct), ctypes.c_char_p, ctypes.c_void_p,)),
+    "wf_path_group_done": (
+        ctypes.c_int32,
+        (
+            ctypes.POINTER(PathStruct),
+            ctypes.POINTER(GroupStruct),
+            ctypes.POINTER(ReplyStruct),
+        ),
+    ),
+    "wf_path_group_counts": (None, (ctypes.POINTER(PathStruct), ctypes.POINTER(GroupCountsStruct),)),
     "wf_path_sent": (
         ctypes.c_int32,
         (
@@ -1173,8 +1263,27 @@ FUNCTIONS: dict[str, tuple[Any, tuple[Any, ...]]] = {
             ctypes.POINTER(ctypes.c_uint32),
         ),
     ),
-    "wf_path_tim": (ctypes.c_size_t, (ctypes.POINTER(PathStruct), ctypes.c_void_p,)),
-    "wf_path_tim_of": (ctypes.c_size_t, (ctypes.POINTER(PathStruct), ctypes.c_char_p, ctypes.c_void_p,)),
+    "wf_path_tim": (
+        ctypes.c_size_t,
+        (
+            ctypes.POINTER(PathStruct),
+            ctypes.c_uint8,
+            ctypes.c_uint8,
+            ctypes.c_uint8,
+            ctypes.c_void_p,
+        ),
+    ),
+    "wf_path_tim_of": (
+        ctypes.c_size_t,
+        (
+            ctypes.POINTER(PathStruct),
+            ctypes.c_char_p,
+            ctypes.c_uint8,
+            ctypes.c_uint8,
+            ctypes.c_uint8,
+            ctypes.c_void_p,
+        ),
+    ),
     "wf_cell_make": (ctypes.c_int32, (ctypes.POINTER(CellStruct), ctypes.POINTER(SettingsStruct),)),
     "wf_cell_free": (None, (ctypes.POINTER(CellStruct),)),
     "wf_cell_ask": (

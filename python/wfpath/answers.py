@@ -34,7 +34,7 @@ class Exchange(NamedTuple):
     true, or a BlockAckReq if `request` is true.
 
     `air` is in microseconds. `ids` and `numbers` are the frames and their sequence numbers; in a batch, whose
-    frames the device numbers, the numbers are 0. `start` is that of the BlockAckReq. `more` says whether the
+    frames the device numbers, the numbers are 0. `start` is the start of the BlockAckReq. `more` says whether the
     station has more to be sent.
     """
 
@@ -123,6 +123,58 @@ class Ceased(NamedTuple):
         return " ".join(["ceased", str(self.dropped), *map(str, self.ids)])
 
 
+class Beacon(NamedTuple):
+    """A beacon: its DTIM count, which is 0 for a DTIM beacon, and whether it announces group frames."""
+
+    dtim_count: int
+    follows: bool
+
+    def __str__(self) -> str:
+        return f"beacon {self.dtim_count} {int(self.follows)}"
+
+
+class Group(NamedTuple):
+    """A group frame: the number of its octets, its owner's tag, and its group address."""
+
+    id: int
+    length: int
+    tag: int
+    to: bytes
+
+    def __str__(self) -> str:
+        return f"gdone {self.id}"
+
+
+class GroupSend(NamedTuple):
+    """A group frame to send: its sequence number and its airtime in microseconds. `more` says whether a station
+    sleeps and another group frame may go next. A path also gives the frame."""
+
+    id: int
+    number: int
+    air: int
+    more: bool
+    frame: Group | None = None
+
+    def __str__(self) -> str:
+        return f"gsend {self.id} {self.number} air {self.air}" + (" more" if self.more else "")
+
+
+class GroupCounts(NamedTuple):
+    """How many group frames were accepted and sent, how many are queued or on the air (`flying`), and the airtime
+    of those that were sent, in microseconds."""
+
+    accepted: int
+    sent: int
+    queued: int
+    flying: int
+    air: int
+
+    @property
+    def held(self) -> int:
+        """How many group frames are not sent yet."""
+        return self.queued + self.flying
+
+
 class Sent(NamedTuple):
     """The content of an open exchange, and its station."""
 
@@ -151,7 +203,7 @@ class Tally(NamedTuple):
 
 
 class Share(NamedTuple):
-    """A station's airtime in a class since its join, in microseconds: its deficit, and what was charged for
+    """A station's airtime in a class since its join, in microseconds: its deficit, and its charges for
     exchanges and by `rx`."""
 
     deficit: int
@@ -161,9 +213,12 @@ class Share(NamedTuple):
 
 class Codel(NamedTuple):
     """A queue: the octets of its bodies, and the state of CoDel in it (RFC 8289). If `dropping` is true, pulls
-    drop frames: the next one from the time `drop_next` on, which follows from `drop_count`."""
+    drop frames: the next one from the time `drop_next` on, which follows from `drop_count`. `dropped` is the
+    number of frames that CoDel dropped from the queue since the path was made, at most 4,294,967,295; frames
+    that are dropped for another cause, such as the limit, do not count."""
 
     octets: int
     drop_next: int
     drop_count: int
     dropping: bool
+    dropped: int

@@ -9,7 +9,7 @@ from . import trace
 from ._handle import BODY_ROOM, NO_ROOM, NO_SOURCE, QUICK, WAITS, Body, C, Handle, view
 from ._library import out_of_range
 from ._tables import AccessClass, CallKind, CallStruct, Form, Kind, Settings
-from .answers import CLASSES, Accepted, Block, Burst, Ceased, Done, Exchange, Reaped
+from .answers import CLASSES, Accepted, Beacon, Block, Burst, Ceased, Done, Exchange, GroupSend, Reaped
 from .errors import Nothing
 from .rates import Rate
 from .raw import Call
@@ -195,8 +195,8 @@ class Cell(Handle):
     def enqueue(
         self, station: int, body: Body, tid: int = 0, flow: int = 0, tag: int = 0, source: bytes = NO_SOURCE
     ) -> Accepted:
-        """Accepts a packet for a station as a frame. The body is copied; a number means a body of so many
-        zeros.
+        """Accepts a packet for a station as a frame. The body is copied; a number means a body of
+        that many zeros.
 
         The tag comes back with the frame. The history has neither source nor tag.
         """
@@ -315,6 +315,35 @@ class Cell(Handle):
                 return found
             self._must(code)
             found.append(self._reaped(body))
+
+    # ---- group frames
+
+    def group(self, length: int) -> int:
+        """Puts a group frame with this length in octets at the end of the queue, and returns its id. Raises Buffered if
+        `buffered` group frames are queued."""
+        if length >> 16:
+            raise out_of_range(length=(length, 16))
+        call = self._calls[CallKind.GROUP]
+        call.struct.length = length
+        self._must(self._code(call))
+        return self._reply.id
+
+    def beacon(self) -> Beacon:
+        """Reports that a beacon goes out. Returns its DTIM count, and whether it announces group frames."""
+        self._must(self._code(self._calls[CallKind.BEACON]))
+        return self._beacon()
+
+    def group_pull(self) -> GroupSend:
+        """Takes the first group frame out of the queue, and puts it on the air. Raises Idle if none may go now, or
+        Flying if one is on the air."""
+        self._must(self._code(self._calls[CallKind.GPULL]))
+        return self._group_send()
+
+    def group_done(self) -> int:
+        """Reports that the transmission of the group frame on the air has ended, and returns its id. Raises Nothing
+        if none is on the air."""
+        self._must(self._code(self._calls[CallKind.GDONE]))
+        return self._reply.id
 
     # ---- the history
 

@@ -168,11 +168,16 @@ class Full(Refused):
 
 
 class Idle(Refused):
-    """No station of the class is ready; the only refusal after which something may have changed."""
+    """`pull`: no station of the class is ready; after this refusal alone something may have changed. `gpull`:
+    no group frame may go now.
+    """
 
     code = 18
     word = "idle"
-    about = "no station of the class is ready; the only refusal after which something may have changed"
+    about = (
+        "`pull`: no station of the class is ready; after this refusal alone something may have changed. "
+        "`gpull`: no group frame may go now"
+    )
 
 
 class Answered(Refused):
@@ -192,11 +197,11 @@ class Arrived(Refused):
 
 
 class Nothing(Refused):
-    """There is nothing to answer, to send or to reap."""
+    """There is nothing to answer, to send, to reap or to end."""
 
     code = 21
     word = "nothing"
-    about = "there is nothing to answer, to send or to reap"
+    about = "there is nothing to answer, to send, to reap or to end"
 
 
 class Asleep(Refused):
@@ -348,10 +353,27 @@ class Legacy(Refused):
     about = "the rate of the station is one of OFDM or DSSS, at which it has no agreement"
 
 
+class Buffered(Refused):
+    """`count` group frames are queued: as many as `buffered`."""
+
+    code = 40
+    word = "buffered"
+    about = "`count` group frames are queued: as many as `buffered`"
+    field = "count"
+
+
+class Flying(Refused):
+    """A group frame is on the air."""
+
+    code = 41
+    word = "flying"
+    about = "a group frame is on the air"
+
+
 class NoMemory(WfError):
     """Out of memory."""
 
-    code = 40
+    code = 60
     word = "no-memory"
     about = "out of memory"
 
@@ -359,7 +381,7 @@ class NoMemory(WfError):
 class BadLength(WfError):
     """The body is empty, or longer than WF_GREATEST_BODY."""
 
-    code = 41
+    code = 61
     word = "bad-length"
     about = "the body is empty, or longer than WF_GREATEST_BODY"
 
@@ -367,32 +389,40 @@ class BadLength(WfError):
 class SmallBuffer(WfError):
     """The buffer is too small."""
 
-    code = 42
+    code = 62
     word = "small-buffer"
     about = "the buffer is too small"
 
 
 class BadCall(WfError):
-    """No call, a rate of no format, a class above 3, or a call that the function does not make."""
+    """No call, a rate of no format, a class above 3, a group frame without octets or longer than
+    WF_GREATEST_BODY, or a call that the function does not make.
+    """
 
-    code = 43
+    code = 63
     word = "bad-call"
-    about = "no call, a rate of no format, a class above 3, or a call that the function does not make"
+    about = (
+        "no call, a rate of no format, a class above 3, a group frame without octets or longer than "
+        "WF_GREATEST_BODY, or a call that the function does not make"
+    )
 
 
 class BadAddress(WfError):
-    """The address is a group address: the lowest bit of its first octet is set."""
+    """The address is a group address: the lowest bit of its first octet is set; wf_path_group: it is none."""
 
-    code = 44
+    code = 64
     word = "bad-address"
-    about = "the address is a group address: the lowest bit of its first octet is set"
+    about = (
+        "the address is a group address: the lowest bit of its first octet is set; wf_path_group: it is "
+        "none"
+    )
 
 
 class NoBody(WfError):
     """The frame has no octets: write its header (wf_path_header), and send the body from its owner's buffer.
     """
 
-    code = 45
+    code = 65
     word = "no-body"
     about = (
         "the frame has no octets: write its header (wf_path_header), and send the body from its owner's "
@@ -403,7 +433,7 @@ class NoBody(WfError):
 class BadAid(WfError):
     """The association identifier is 0 or above 2007."""
 
-    code = 46
+    code = 66
     word = "bad-aid"
     about = "the association identifier is 0 or above 2007"
 
@@ -411,7 +441,7 @@ class BadAid(WfError):
 class BadClass(WfError):
     """The class is above 3."""
 
-    code = 47
+    code = 67
     word = "bad-class"
     about = "the class is above 3"
 
@@ -419,7 +449,7 @@ class BadClass(WfError):
 class BadOutcome(WfError):
     """An outcome is above 3 (enum wf_outcome)."""
 
-    code = 48
+    code = 68
     word = "bad-outcome"
     about = "an outcome is above 3 (enum wf_outcome)"
 
@@ -427,7 +457,7 @@ class BadOutcome(WfError):
 class InUse(WfError):
     """The handle holds something already."""
 
-    code = 49
+    code = 69
     word = "in-use"
     about = "the handle holds something already"
 
@@ -435,7 +465,7 @@ class InUse(WfError):
 class BlockLength(BlockError):
     """Not 28 octets, nor, if the window is above 64, 52."""
 
-    code = 51
+    code = 71
     word = "block-length"
     about = "not 28 octets, nor, if the window is above 64, 52"
 
@@ -443,7 +473,7 @@ class BlockLength(BlockError):
 class BlockKind(BlockError):
     """Not a BlockAck."""
 
-    code = 52
+    code = 72
     word = "block-kind"
     about = "not a BlockAck"
 
@@ -451,7 +481,7 @@ class BlockKind(BlockError):
 class BlockBasic(BlockError):
     """Not compressed."""
 
-    code = 53
+    code = 73
     word = "block-basic"
     about = "not compressed"
 
@@ -459,7 +489,7 @@ class BlockBasic(BlockError):
 class BlockMulti(BlockError):
     """For several TIDs."""
 
-    code = 54
+    code = 74
     word = "block-multi"
     about = "for several TIDs"
 
@@ -467,7 +497,7 @@ class BlockMulti(BlockError):
 class BlockFragment(BlockError):
     """Its fragment number is not 0, or, of 52 octets, not 4."""
 
-    code = 55
+    code = 75
     word = "block-fragment"
     about = "its fragment number is not 0, or, of 52 octets, not 4"
 
@@ -475,7 +505,7 @@ class BlockFragment(BlockError):
 class BlockNarrow(BlockError):
     """Of 52 octets, and its fragment number is 0, that of 64 bits."""
 
-    code = 56
+    code = 76
     word = "block-narrow"
     about = "of 52 octets, and its fragment number is 0, that of 64 bits"
 
@@ -483,7 +513,7 @@ class BlockNarrow(BlockError):
 class NotMine(BlockError):
     """Not to the access point, or not from the exchange's station."""
 
-    code = 57
+    code = 77
     word = "not-mine"
     about = "not to the access point, or not from the exchange's station"
 
@@ -491,7 +521,7 @@ class NotMine(BlockError):
 class WrongTid(BlockError):
     """For another TID."""
 
-    code = 58
+    code = 78
     word = "wrong-tid"
     about = "for another TID"
 
@@ -537,22 +567,24 @@ ERRORS: dict[int, type[WfError]] = {
     37: NotAgreed,
     38: Waits,
     39: Legacy,
-    40: NoMemory,
-    41: BadLength,
-    42: SmallBuffer,
-    43: BadCall,
-    44: BadAddress,
-    45: NoBody,
-    46: BadAid,
-    47: BadClass,
-    48: BadOutcome,
-    49: InUse,
-    51: BlockLength,
-    52: BlockKind,
-    53: BlockBasic,
-    54: BlockMulti,
-    55: BlockFragment,
-    56: BlockNarrow,
-    57: NotMine,
-    58: WrongTid,
+    40: Buffered,
+    41: Flying,
+    60: NoMemory,
+    61: BadLength,
+    62: SmallBuffer,
+    63: BadCall,
+    64: BadAddress,
+    65: NoBody,
+    66: BadAid,
+    67: BadClass,
+    68: BadOutcome,
+    69: InUse,
+    71: BlockLength,
+    72: BlockKind,
+    73: BlockBasic,
+    74: BlockMulti,
+    75: BlockFragment,
+    76: BlockNarrow,
+    77: NotMine,
+    78: WrongTid,
 }

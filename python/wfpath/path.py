@@ -9,7 +9,8 @@ from . import _tables as tables
 from ._handle import BODY_ROOM, NO_ROOM, NO_SOURCE, QUICK, WAITS, Body, C, Handle, address_octets
 from ._library import out_of_range
 from ._tables import AccessClass, Form, Settings
-from .answers import CLASSES, Accepted, Burst, Codel, Done, Exchange, Reaped, Sent, Share, Tally
+from .answers import CLASSES, Accepted, Beacon, Burst, Codel, Done, Exchange, Group, GroupCounts, GroupSend, Reaped
+from .answers import Sent, Share, Tally
 from .errors import Nothing
 from .rates import Rate
 from .raw import Call
@@ -179,8 +180,8 @@ class Path(Handle):
     def enqueue(
         self, station: int, body: Body, tid: int = 0, flow: int = 0, tag: int = 0, source: bytes = NO_SOURCE
     ) -> Accepted:
-        """Accepts a packet for a station as a frame. The body is copied; a number means a body of so many
-        zeros.
+        """Accepts a packet for a station as a frame. The body is copied; a number means a body of
+        that many zeros.
 
         The tag comes back with the frame. `source` is the third address of its header; six zeros mean a
         placeholder.
@@ -322,6 +323,47 @@ class Path(Handle):
                 return found
             self._must(code)
             found.append(self._reaped(body))
+
+    # ---- group frames
+
+    def group(self, to: bytes, length: int, tag: int = 0) -> int:
+        """Puts a group frame to the group address `to` at the end of the queue, and returns its id. The owner keeps
+        its `length` octets, and sends them after `group_header`. Raises Buffered if `buffered` group frames are
+        queued."""
+        if length >> 16 or tag >> 64:
+            raise out_of_range(length=(length, 16), tag=(tag, 64))
+        self._must(C.wf_path_group(self._at, address_octets(to), length, tag, self._reply_at))
+        return self._reply.id
+
+    def beacon(self) -> Beacon:
+        """Reports that a beacon goes out. Returns its DTIM count, and whether it announces group frames."""
+        self._must(C.wf_path_beacon(self._at, self._reply_at))
+        return self._beacon()
+
+    def group_pull(self) -> GroupSend:
+        """Takes the first group frame out of the queue, and returns it; the driver then sends it. Raises Idle if none
+        may go now, or Flying if one is on the air."""
+        group = tables.GroupStruct()
+        self._must(C.wf_path_group_pull(self._at, ctypes.byref(group), self._reply_at))
+        return self._group_send()._replace(frame=group_of(group))
+
+    def group_header(self, source: bytes) -> bytes:
+        """Returns the header of the group frame on the air, 24 octets, with this source address."""
+        self._must(C.wf_path_group_header(self._at, address_octets(source), self._octets))
+        return bytes(self._octets_view[: tables.GROUP_HEADER])
+
+    def group_done(self) -> Group:
+        """Reports that the transmission of the group frame on the air has ended, and returns the frame. Raises
+        Nothing if none is on the air."""
+        group = tables.GroupStruct()
+        self._must(C.wf_path_group_done(self._at, ctypes.byref(group), self._reply_at))
+        return group_of(group)
+
+    def group_counts(self) -> GroupCounts:
+        """Returns how many group frames were accepted, sent, and are queued or on the air."""
+        counts = tables.GroupCountsStruct()
+        C.wf_path_group_counts(self._at, ctypes.byref(counts))
+        return GroupCounts(counts.accepted, counts.sent, counts.queued, counts.flying, counts.air)
 
     # ---- an open exchange
 
@@ -468,12 +510,12 @@ class Path(Handle):
     def codel(self, queue: int) -> Codel:
         """Returns the octets of a queue, and the state of CoDel in it. The frames of a flow are in queue `flow`
         modulo `flows` or, if another TID uses this queue, in queue `flows` + 8 * station + TID. Raises BadIndex
-        if there is no such queue."""
+        if the queue does not exist."""
         if queue >> 32:
             raise out_of_range(queue=(queue, 32))
         found = tables.CodelStruct()
         self._must(C.wf_path_codel(self._at, queue, ctypes.byref(found)))
-        return Codel(found.octets, found.drop_next, found.drop_count, found.dropping != 0)
+        return Codel(found.octets, found.drop_next, found.drop_count, found.dropping != 0, found.dropped)
 
     def waiting(self, station: int, tid: int) -> int:
         """Returns how many sequence numbers of a station's TID wait to be sent."""
@@ -488,12 +530,16 @@ class Path(Handle):
         begin."""
         return self._of_tid(C.wf_path_drained, station, tid) != 0
 
-    def tim(self, bss: bytes | None = None) -> bytes:
+    def tim(self, count: int = 0, period: int = 1, group: bool = False, bss: bytes | None = None) -> bytes:
         """Returns the TIM element of the stations that sleep and have traffic: of all, or of those whose access
-        point has this address."""
+        point has the address `bss`. `count` is the DTIM count, `period` the DTIM period in beacons, and `group` the
+        bit for group frames: pass `dtim_count` and `follows` of the latest beacon."""
+        if count >> 8 or period >> 8:
+            raise out_of_range(count=(count, 8), period=(period, 8))
+        fields = (count, period, 1 if group else 0, self._octets)
         if bss is None:
-            return bytes(self._octets_view[: C.wf_path_tim(self._at, self._octets)])
-        return bytes(self._octets_view[: C.wf_path_tim_of(self._at, address_octets(bss), self._octets)])
+            return bytes(self._octets_view[: C.wf_path_tim(self._at, *fields)])
+        return bytes(self._octets_view[: C.wf_path_tim_of(self._at, address_octets(bss), *fields)])
 
     # ---- parts
 
@@ -558,3 +604,8 @@ class Path(Handle):
         if body:
             return int(_reap(self._at, self._reply_at, self._taken_at, self._octets, BODY_ROOM))
         return int(_reap(self._at, self._reply_at, self._taken_at, None, NO_ROOM))
+
+
+def group_of(found: tables.GroupStruct) -> Group:
+    """Returns the group frame of a struct of the library."""
+    return Group(found.id, found.length, found.tag, bytes(found.to))

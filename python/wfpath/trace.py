@@ -35,6 +35,10 @@ FIELDS: dict[CallKind, tuple[str, ...]] = {
     CallKind.BEGIN: ("station", "tid", "window"),
     CallKind.FREE: ("station", "tid"),
     CallKind.CEASE: ("station", "tid"),
+    CallKind.GROUP: ("length",),
+    CallKind.BEACON: (),
+    CallKind.GPULL: (),
+    CallKind.GDONE: (),
 }
 WORDS = {CallKind.ENQUEUE: "enq"}
 
