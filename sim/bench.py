@@ -17,6 +17,7 @@ from .clock import Clock
 from .device import REPORT, Device
 from .frames import CLASS_OF_TID, CLASSES, Exchange, Frame, Path
 from .medium import AccessPoint, Contender, Medium, Uplink, UplinkExchange
+from .multicast import Multicast
 from .program import OutOfCalls
 from .rates import Rate
 from .receivers import Receivers
@@ -77,6 +78,7 @@ class Bench:
         self.until = 0  # when the run ends
         self.receivers = Receivers(self.clock, self.sources, self.uplinks, self.enqueue_control, self.ask)
         self.loads: list[list[tuple[int, int]]] = [[] for _ in scenario.flows]  # when each transfer began, and how long it took
+        self.multicast = Multicast(scenario, self.clock, path, self.medium, self.here)
         self.plan_transfers()
 
     # Time
@@ -178,6 +180,7 @@ class Bench:
         self.leaving.discard(station.number)
         self.device.forget(station.number)
         self.path.leave(station)
+        self.multicast.wake(station)
 
     def change_rate(self, station: Station, rate: Rate) -> None:
         self.path.set_rate(station, rate)
@@ -185,11 +188,13 @@ class Bench:
 
     def sleep(self, station: Station) -> None:
         self.path.sleep(station)
+        self.multicast.sleep(station)
         self.agreements.sleep(station)
         self.cancel(station)
 
     def wake(self, station: Station) -> None:
         self.path.wake(station)
+        self.multicast.wake(station)
         self.agreements.wake(station)
         self.may_send = dict.fromkeys(CLASSES, True)
         self.unblock()
@@ -336,7 +341,9 @@ class Bench:
                 self.agreements.opened(exchange)
 
     def start_air(self) -> None:
-        """Begins the next exchange, of the access point or of a station, if there is one."""
+        """Begins the next transmission, if there is one: a beacon, else a group frame, else an exchange."""
+        if self.multicast.send():
+            return
         contenders: list[Contender] = [one for one in self.uplinks if one.count]
         if self.access_point.count:
             contenders.insert(0, self.access_point)
@@ -406,7 +413,7 @@ class Bench:
             self.remove(station)
 
     def finish_batch(self, exchange: Exchange, access: int) -> None:
-        """A transmission of a batch ends. The device repeats what was not acknowledged, and reports the rest."""
+        """A transmission of a batch ends. The device repeats the frames that were not acknowledged, and reports the others."""
         station = self.scenario.stations[exchange.station]
         frames = self.device.left(exchange)
         arrived, heard = self.outcome(station, len(frames))

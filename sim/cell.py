@@ -12,7 +12,7 @@ from typing import Any
 from wfpath.raw import GREATEST_BODY, AccessClass, Call, CallKind, Fate, Form, NoMemory, PacketStruct, RawCell, Settings
 
 from .fields import Fault
-from .frames import Exchange, Frame
+from .frames import Exchange, Frame, GroupSend
 from .machine import LONGEST_TICK, MOST_COMING, Held, NoRoom
 from .program import OutOfCalls
 from .rates import Legacy, Rate
@@ -24,7 +24,7 @@ CLASSES = {one.word: one.value for one in AccessClass}
 
 
 class Cell(Held):
-    """A cell of the library in this file, call by call. Its calls are those of `wfpath.raw`."""
+    """A cell of the library in this file, call by call. It makes them by `wfpath.raw`."""
 
     def __init__(self, scenario: Scenario, library: str, calls: int) -> None:
         super().__init__(scenario)
@@ -153,6 +153,21 @@ class Cell(Held):
         self.spend(1)
         charge = self.call(CallKind.RX, station=station.number, class_=CLASSES[frame_class], air=air)
         self.c_ask(self.at, 0, charge, self.to_reply)
+
+    def group(self, octets: int) -> bool:
+        return not self.ask(CallKind.GROUP, length=octets)
+
+    def beacon(self) -> bool:
+        self.must(CallKind.BEACON)
+        return bool(self.reply.more)
+
+    def group_pull(self) -> GroupSend | None:
+        if self.ask(CallKind.GPULL):
+            return None
+        return GroupSend(self.reply.id, self.reply.air, bool(self.reply.more))
+
+    def group_done(self) -> None:
+        self.must(CallKind.GDONE)
 
     # Frames
 

@@ -132,6 +132,8 @@ def check_model(name: str, scenario: Scenario) -> None:
     """Refuses a model for a scenario that only the machine can run."""
     if any(station.sleeps for station in scenario.stations):
         raise Fault(f"{name}: models have no power save, and stations of this scenario sleep: expected {MACHINE} alone")
+    if scenario.air.beacon or scenario.multicast:
+        raise Fault(f"{name}: models have no beacons and no group frames, and this scenario has some: expected {MACHINE} alone")
     if any(station.offload for station in scenario.stations):
         raise Fault(f"{name}: models have no offloaded stations, and this scenario has some: expected {MACHINE} alone")
     if any(station.plain for station in scenario.stations):
@@ -139,7 +141,7 @@ def check_model(name: str, scenario: Scenario) -> None:
 
 
 def choices_of(given: argparse.Namespace, scenario: Scenario) -> list[Choice]:
-    """The paths to run over. A model has no power save, no offloaded stations, and no agreements that begin later."""
+    """The paths to run over. A model has no power save, no group frames, no offloaded stations, and no agreements that begin later."""
     if given.compare is None:
         choices = choose_all(scenario.compare, f"{given.scenario}: compare")
     else:

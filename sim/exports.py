@@ -8,11 +8,11 @@ from collections.abc import Mapping, Sequence
 from typing import Any, TextIO
 
 from .frames import CAUSES
-from .measure import PERCENTILES, FlowResult, Result, StationResult, nearest_rank
+from .measure import PERCENTILES, FlowResult, MulticastResult, Result, StationResult, nearest_rank
 from .scenario import Scenario
 
 Numbers = dict[str, Any]
-KINDS_OF_ROWS = ("station", "flow")
+KINDS_OF_ROWS = ("station", "flow", "multicast")
 STATION_COLUMNS = (
     *("rate", "weight", "airtime_us", "uplink_us", "airtime_share", "throughput_mbit_per_s", "throughput_up_mbit_per_s"),
     *("aggregate_frames", "retries_frames"),
@@ -23,6 +23,9 @@ FLOW_COLUMNS = (
     *("delay_mean_us", *(f"delay_p{percent}_us" for percent in PERCENTILES)),
     *("direction", "mos", "transfers", "transfer_mean_us", *(f"transfer_p{percent}_us" for percent in PERCENTILES)),
 )
+
+
+MULTICAST_COLUMNS = ("received_frames", "lost_frames", "missed_frames", "refused_frames")  # next to columns of flows
 
 
 def finite_or_none(value: float) -> float | None:
@@ -67,6 +70,21 @@ def station_numbers(one: StationResult) -> Numbers:
     }
 
 
+def multicast_numbers(one: MulticastResult) -> Numbers:
+    """The numbers of a multicast flow at one station."""
+    return {
+        "flow": one.flow.name,
+        "station": one.station.name,
+        "offered_frames": one.offered,
+        "received_frames": one.received,
+        "lost_frames": one.lost,
+        "missed_frames": one.missed,
+        "refused_frames": one.refused,
+        "delay_mean_us": finite_or_none(one.mean),
+        **{f"delay_p{percent}_us": finite_or_none(one.percentile(percent)) for percent in PERCENTILES},
+    }
+
+
 def frame_times(one: FlowResult) -> list[Sequence[int | str | None]]:
     """The times at which each frame came, was released and ended, and its fate; with replies also the time of that."""
     if one.flow.echo:
@@ -94,6 +112,7 @@ def run_numbers(result: Result, parameters: Mapping[str, str] | None = None, fra
         "summary": result.summary,
         "stations": [station_numbers(one) for one in result.stations],
         "flows": flows,
+        "multicasts": [multicast_numbers(one) for one in result.multicast],
     }
 
 
@@ -104,7 +123,8 @@ def write_json(file: TextIO, scenario: Scenario, runs: Sequence[Numbers], progra
 
 
 def rows_of(runs: Sequence[Numbers], kind: str) -> list[Numbers]:
-    """A row for each station or for each flow (`kind`) of each run, with what tells the runs apart."""
+    """For each run, a row for each station, for each flow, or for each station of a multicast flow (`kind`), with the columns in which
+    runs differ."""
     return [
         {"path": run["path"], "seed": run["seed"], "simulated_s": run["simulated_s"], **run["parameters"], "row": kind, **numbers}
         for run in runs
@@ -113,9 +133,11 @@ def rows_of(runs: Sequence[Numbers], kind: str) -> list[Numbers]:
 
 
 def write_csv(file: TextIO, runs: Sequence[Numbers]) -> None:
-    """Writes a row for each station and each flow of each run. Cells that have no meaning for a row are empty."""
+    """Writes for each run a row for each station, for each flow, and for each station of a multicast flow. Cells that have no meaning
+    for a row are empty. The columns of multicast flows exist only if there is such a flow."""
     parameters = list(runs[0]["parameters"])
     head = ["path", "seed", *parameters, "simulated_s", "row", "station", "flow", *STATION_COLUMNS, *FLOW_COLUMNS]
+    head += MULTICAST_COLUMNS if runs[0]["multicasts"] else ()
     writer = csv.DictWriter(file, head, lineterminator="\n", extrasaction="ignore")
     writer.writeheader()
     for run in runs:

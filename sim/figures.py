@@ -127,7 +127,7 @@ def draw_points(axes: Any, groups: Sequence[Group], figure: Figure, shown: Seque
 
 
 def named_alone(scenario: Scenario, figure: Figure, shown: Sequence[tuple[int, str]]) -> list[tuple[int, str]]:
-    """A few stations that have tables of their own next to others that share one: a figure of boxes shows them by name."""
+    """A few stations that have their own tables next to others that share one: a figure of boxes shows them by name."""
     alone = [(nth, name) for nth, name in shown if figure.of == "stations" and scenario.stations[nth].group == name]
     return alone if len(alone) <= MOST_ALONE else []
 

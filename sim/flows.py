@@ -6,7 +6,8 @@ from collections.abc import Callable
 from dataclasses import replace
 
 from .fields import Table, is_number
-from .scenario import STANDARD_SIZES, Flow, Page, Sizes, Station
+from .rates import Legacy
+from .scenario import STANDARD_SIZES, Flow, Page, Sizes, Station, everyone
 from .traffic import HEADERS
 
 MOST_BODY = 2304
@@ -19,13 +20,19 @@ VOICE_EVERY = 20_000  # microseconds
 SEGMENT = 1500
 PAGES = {"small": (56_000, 3), "large": (3_000_000, 110)}  # octets and requests (the two pages of "Ending the Anomaly")
 SIZE_EXPECTED = f"octets from 1 to {MOST_BODY}, or a list of pairs [octets, weight]"
+MULTICAST = ("mbit", "every_ms", "poisson_per_s", "voip")  # kinds of flows to all stations
 PAGE_EXPECTED = "small, large, or [octets, requests]"
 
 
-def read_flows(top: Table, seconds: float, stations: list[Station]) -> list[Flow]:
-    """All flows; a table that gives the name of a group makes one flow to each of its stations."""
+def read_flows(top: Table, seconds: float, stations: list[Station]) -> tuple[list[Flow], list[Flow]]:
+    """The flows of single stations, and the flows to all stations. A table with the name of a group makes a flow for each of its
+    stations."""
     flows: list[Flow] = []
+    multicast: list[Flow] = []
     for table in top.tables("flow", needed=True):
+        if table.has("to"):
+            multicast.append(read_multicast(table, len(multicast) + 1, seconds))
+            continue
         group = table.text("station")
         members = [station for station in stations if group in (station.group, station.name)]
         if not members:
@@ -36,8 +43,21 @@ def read_flows(top: Table, seconds: float, stations: list[Station]) -> list[Flow
         for station in members:
             flows += placed(first, len(flows) + 1, station)
     if not flows:
-        raise top.fault("the file has no flow: expected a table [[flow]]")
-    return flows
+        raise top.fault(f"the file has no flow: expected a table [[flow]]{' with a station' if multicast else ''}")
+    return flows, multicast
+
+
+def read_multicast(table: Table, number: int, seconds: float) -> Flow:
+    """The flow of a table to all stations."""
+    table.one_of("to", ("all",), "all")
+    for key in ("station", "tid", "direction", "echo"):
+        if table.has(key):
+            raise table.wrong(key, f"no {key}, since the flow is to all stations")
+    flow = read_flow(table, everyone(Legacy("ofdm", 6)), seconds)
+    if flow.kind not in MULTICAST:
+        raise table.fault(f"{flow.kind} is no kind of a flow to all stations: expected one of {', '.join(MULTICAST)}")
+    table.finish()
+    return replace(flow, number=number)
 
 
 def placed(flow: Flow, number: int, station: Station) -> list[Flow]:

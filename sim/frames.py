@@ -36,7 +36,7 @@ class Frame:
 
 @dataclass(slots=True)
 class Exchange:
-    """An aggregate of data frames, or a BlockAckReq if it has none. `air` of a batch is that of the transmission that is next."""
+    """An aggregate of data frames, or a BlockAckReq if it has none. `air` of a batch is the airtime of its next transmission."""
 
     number: int
     station: int
@@ -52,6 +52,15 @@ class Exchange:
     def charged(self) -> int:
         """Microseconds that the exchange is charged."""
         return self.air if self.charge is None else self.charge
+
+
+@dataclass(slots=True)
+class GroupSend:
+    """A group frame that goes on the air: its id, its airtime in microseconds, and the More Data bit."""
+
+    number: int
+    air: int
+    more: bool
 
 
 @dataclass
@@ -143,6 +152,22 @@ class Path(ABC):
     def poll(self, station: Station) -> str | None:
         """The class that a sleeping station's poll got a credit for, if any."""
         return None
+
+    def group(self, octets: int) -> bool:
+        """Takes a group frame, and returns whether it has room for it. A model has no group frames, and no beacons."""
+        raise NotImplementedError
+
+    def beacon(self) -> bool:
+        """Notes that a beacon goes out. Returns whether it announces group frames."""
+        raise NotImplementedError
+
+    def group_pull(self) -> GroupSend | None:
+        """The next group frame, if one may go now."""
+        raise NotImplementedError
+
+    def group_done(self) -> None:
+        """Notes that the group frame on the air has ended."""
+        raise NotImplementedError
 
     def close(self) -> None:
         """Ends the path; it is asked nothing afterwards."""

@@ -5,7 +5,7 @@ from collections.abc import Sequence
 from typing import TextIO
 
 from .fields import Fault
-from .frames import Exchange, Frame, Path
+from .frames import Exchange, Frame, GroupSend, Path
 from .program import Pipe
 from .rates import Rate
 from .scenario import Flow, Scenario, Station
@@ -185,6 +185,19 @@ class Machine(Held):
         self.notes.append((len(self.lines) - 1, frame, self.now))
         if self.coming >= MOST_COMING:
             self.ask([])
+
+    def group(self, octets: int) -> bool:
+        return self.ask([f"group {octets}"])[0].startswith("queued ")
+
+    def beacon(self) -> bool:
+        return self.must("beacon", "beacon").endswith(" 1")
+
+    def group_pull(self) -> GroupSend | None:
+        words = self.ask(["gpull"])[0].split()
+        return GroupSend(int(words[1]), int(words[4]), words[-1] == "more") if words[0] == "gsend" else None
+
+    def group_done(self) -> None:
+        self.must("gdone", "gdone")
 
     def pull(self, frame_class: str) -> Exchange | None:
         words = self.ask([f"pull {frame_class}"])[0].split()

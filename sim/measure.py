@@ -102,6 +102,33 @@ class FlowResult:
 
 
 @dataclass
+class MulticastResult:
+    """A multicast flow at one station: how many of the frames that were sent while the station was live it lost and missed, and the
+    delays of the others in microseconds, sorted. A delay is the time from a frame's arrival at the path until the end of its
+    transmission."""
+
+    flow: Flow
+    station: Station
+    offered: int
+    refused: int
+    lost: int
+    missed: int
+    delays: list[int]
+
+    @property
+    def received(self) -> int:
+        return len(self.delays)
+
+    @property
+    def mean(self) -> float:
+        return sum(self.delays) / len(self.delays) if self.delays else math.nan
+
+    def percentile(self, percent: float) -> float:
+        """The nearest-rank percentile of the delays."""
+        return nearest_rank(self.delays, percent)
+
+
+@dataclass
 class Result:
     """A whole run of one path."""
 
@@ -118,6 +145,7 @@ class Result:
     calls: int  # of the machine; 0 for a model
     summary: list[str]  # the machine's summary, line by line
     cut: bool  # whether the program took no more calls before the scenario's end
+    multicast: list[MulticastResult] = field(default_factory=list)  # of each multicast flow at each station
 
     @property
     def has_uplink(self) -> bool:
@@ -187,6 +215,16 @@ def octets_released(bench: Bench) -> list[tuple[int, int]]:
     return [(down, up) for down, up in octets]
 
 
+def multicast_results(bench: Bench) -> list[MulticastResult]:
+    """The results of each multicast flow at each station."""
+    found, flows = bench.multicast, bench.scenario.multicast
+    return [
+        MulticastResult(flow, station, sending.offered, sending.refused, one.lost, one.missed, sorted(one.delays))
+        for flow, sending, heard in zip(flows, found.sending, found.heard)
+        for station, one in zip(bench.scenario.stations, heard)
+    ]
+
+
 def always_wanting(scenario: Scenario) -> set[int]:
     """The numbers of the stations that Jain's index compares: those with a flow that wants all airtime that it can get; if fewer than
     two have one, all that have a flow."""
@@ -211,9 +249,10 @@ def measure(bench: Bench, label: str, model: str, reached: int, took: float) -> 
         flows=[flow_result(*of_flow, bench.warmup) for of_flow in zip(scenario.flows, bench.frames, bench.loads)],
         jain=jain([one.airtime / one.station.weight for one in stations if one.station.number in wanting]),
         total=sum(one.mbit + one.mbit_up for one in stations),
-        busy=(everything + sum(served.access for served in bench.served)) / span,
+        busy=(everything + sum(served.access for served in bench.served) + bench.multicast.used) / span,
         took=took,
         calls=bench.path.calls,
         summary=bench.path.summary,
         cut=reached < scenario.seconds * 1e6,
+        multicast=multicast_results(bench),
     )

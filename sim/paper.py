@@ -1,6 +1,6 @@
 """The experiments of "Ending the Anomaly", as a page: `./wf sim --paper` runs all of them and writes docs/PAPER.md.
 
-The paper's numbers here are those of its table 1, as we read them in the paper: the repository has no copy of it, and no script compares
+The paper's numbers here come from its table 1, as we read them in the paper: the repository has no copy of it, and no script compares
 them. It has no other number of the paper.
 """
 from __future__ import annotations
@@ -240,7 +240,7 @@ def draw_all(outputs: Outputs, page_file: str, results: Sequence[Sequence[Number
 
 
 def interval_of(seeds: int) -> str:
-    """What a number of the page is."""
+    """Says how a number of the page was computed."""
     if seeds == 1:
         return "A number is of one run, with seed 1."
     return f"A number is the mean over {seeds} seeds with its 95 % confidence interval by Student's t."

@@ -20,6 +20,8 @@ MOST_SEED = 2**63 - 1
 MOST_STATIONS = 256
 LONGEST_ANSWER = SIFS + WIDE_BLOCK_ACK  # microseconds after the data of an exchange
 STANDARD_LOSS = 0.001
+STANDARD_BUFFERED = 128  # group frames that may wait: as many as in mac80211
+STANDARD_BEACON = 102_400  # microseconds between beacons, if group frames may wait
 AGREEMENTS = ("join", "first-frame")  # when agreements begin
 RATE_EXPECTED = 'a rate as in a trace, such as "15 20 short", "vht 9 80 short 2", "he 11 80 800 2", "ofdm 54" or "dsss 2"'
 
@@ -45,6 +47,7 @@ def from_table(top: Table, name: str) -> Scenario:
     """The scenario of a file's outermost table."""
     seconds = top.number("seconds", 0.001, LONGEST)
     stations = read_stations(top, seconds)
+    flows, multicast = read_flows(top, seconds, stations)
     scenario = Scenario(
         name=name,
         title=top.text("title", name),
@@ -56,10 +59,12 @@ def from_table(top: Table, name: str) -> Scenario:
         models=read_models(top.table("models")),
         air=read_air(top.table("air")),
         stations=stations,
-        flows=read_flows(top, seconds, stations),
+        flows=flows,
+        multicast=multicast,
         compare=top.texts("compare", [MACHINE]),
     )
     allow_rates(top, scenario)
+    allow_multicast(top, scenario)
     if scenario.air.charge_access:
         allow_charges(top, scenario, "charge_access is true")
     elif any(station.is_measured for station in stations):
@@ -76,6 +81,14 @@ def allow_rates(top: Table, scenario: Scenario) -> None:
     least = max(station.legacy for station in scenario.stations)
     if least and scenario.settings.setdefault("legacy", least) < least:
         raise top.table("machine").wrong("legacy", f"at least {least}, since a station has a rate of {'OFDM' if least == 1 else 'DSSS'}")
+
+
+def allow_multicast(top: Table, scenario: Scenario) -> None:
+    """Lets group frames wait for a DTIM beacon if there is a flow to all stations, and beacons go out if group frames may wait."""
+    if scenario.multicast and not scenario.settings.setdefault("buffered", STANDARD_BUFFERED):
+        raise top.table("machine").wrong("buffered", "at least 1, since a flow is to all stations")
+    if scenario.setting("buffered") and scenario.air.beacon is None:
+        scenario.air.beacon = STANDARD_BEACON
 
 
 def allow_charges(top: Table, scenario: Scenario, why: str) -> None:
@@ -106,6 +119,7 @@ def read_air(table: Table) -> Air:
         charge_access=table.flag("charge_access"),
         charge_uplink=table.flag("charge_uplink", True),
         inflight=table.whole("inflight", settings()["inflight"].least, settings()["inflight"].greatest, 2),
+        beacon=round(1000 * table.number("beacon_ms", 1, 60_000)) if table.has("beacon_ms") else None,
     )
     table.finish()
     return air

@@ -43,7 +43,7 @@ class Program:
 
     @property
     def decides(self) -> str:
-        """The file that stands for the machine among the results that are kept."""
+        """The file that identifies the machine in stored results."""
         found = self.path or self.library
         assert found is not None
         return found

@@ -29,6 +29,7 @@ class Air:
     charge_access: bool = False  # whether an exchange is charged the access before it
     charge_uplink: bool = True  # whether a station is charged for what it sends
     inflight: int = 2  # exchanges of a class that the driver holds
+    beacon: int | None = None  # time between beacons; None for no beacons
 
     @property
     def longest_access(self) -> int:
@@ -77,6 +78,12 @@ class Station:
     def is_measured(self) -> bool:
         """Whether the driver's measure of its airtime has an error."""
         return bool(self.charge_bias or self.charge_error)
+
+
+def everyone(rate: Rate) -> Station:
+    """Returns a station that represents all stations, as the receiver of a multicast flow at this rate."""
+    name, forever = "all", math.inf
+    return Station(-1, name, name, rate, weight=1, window=1, loss=0, ack_loss=0, join=0, leave=forever, rates=[], sleeps=[], poll=0)
 
 
 @dataclass
@@ -139,6 +146,7 @@ class Scenario:
     air: Air
     stations: list[Station]
     flows: list[Flow]
+    multicast: list[Flow] = field(default_factory=list)  # flows to all stations, whose `station` is `everyone`
     pictures: list[str] = field(default_factory=list)
     shown: list[str] = field(default_factory=list)  # names or labels of flows whose delays are shown; empty for all
     compare: list[str] = field(default_factory=list)

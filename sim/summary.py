@@ -65,6 +65,17 @@ def flows_table(group: Group) -> list[str]:
     return rows(["flow", "offered", "delivered", *causes, "delay", "mean", *percentiles], lines)
 
 
+def multicast_table(group: Group) -> list[str]:
+    """The table of multicast flows at each station. It is empty if there are none."""
+    counts = ("offered", "received", "lost", "missed", "refused")
+    delays = ("mean", *(f"p{percent}" for percent in PERCENTILES))
+    lines = []
+    for nth, one in enumerate(group[0]["multicasts"]):
+        line = [f"{one['flow']} to {one['station']}", *(over(group, "multicasts", nth, f"{name}_frames").text(0) for name in counts)]
+        lines.append([*line, *(over(group, "multicasts", nth, f"delay_{name}_us").text(1, 1e-3) for name in delays)])
+    return ["", *rows(["multicast", *counts, *delays], lines)] if lines else []
+
+
 def transfers_table(group: Group) -> list[str]:
     """The seconds that transfers and pages took, and the quality of calls, if there are any."""
     transfers, calls = [], []
@@ -121,7 +132,7 @@ def text(scenario: Scenario, runs: Sequence[Numbers], program: str) -> str:
     for group in groups:
         head = ", ".join(filter(None, (swept(group[0]), group[0]["path"])))
         lines += ["", f"== {head} ==", *stations_table(group), "", *flows_table(group)]
-        lines += [*transfers_table(group), "", *foot(group)]
+        lines += [*multicast_table(group), *transfers_table(group), "", *foot(group)]
     if len(groups) > 1:
         lines += ["", "== compared ==", *comparison(scenario, groups)]
     if program:

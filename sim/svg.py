@@ -177,7 +177,7 @@ class Picture:
             self.text(x + 26, y, entry.words, anchor="start")
 
     def fill(self, style: Style) -> str:
-        """The fill of a bar. A hatch is defined where a picture needs it first; equal definitions have the same name."""
+        """The fill of a bar. A hatch is defined when a picture first needs it; equal definitions have the same name."""
         if not style.hatch:
             return style.colour
         name = f"hatch-{style.colour[1:]}"

@@ -55,6 +55,19 @@ def flows_table(result: Result) -> list[str]:
     return rows(head, lines)
 
 
+def multicast_table(result: Result) -> list[str]:
+    """The table of multicast flows at each station. It is empty if there are none. Refused frames have a column if there are any."""
+    refused = any(one.refused for one in result.multicast)
+    head = ["multicast", "offered", *(["refused"] if refused else []), "received", "lost", "missed", "mean"]
+    head += [f"p{percent}" for percent in PERCENTILES]
+    lines = []
+    for one in result.multicast:
+        line = [f"{one.flow.name} to {one.station.name}", str(one.offered), *([str(one.refused)] if refused else [])]
+        line += [str(one.received), str(one.lost), str(one.missed), millis(one.mean)]
+        lines.append([*line, *(millis(one.percentile(percent)) for percent in PERCENTILES)])
+    return ["", *rows(head, lines)] if lines else []
+
+
 def transfers_table(result: Result) -> list[str]:
     """The seconds that transfers and pages took, if there are any."""
     lines = []
@@ -112,7 +125,7 @@ def text(scenario: Scenario, results: Sequence[Result], program: str) -> str:
     lines = [f"{scenario.title}: {scenario.seconds:g} s, seed {scenario.seed}. {delays}"]
     for result in results:
         lines += ["", f"== {result.label} ==", *stations_table(result), "", *flows_table(result)]
-        lines += [*transfers_table(result), *calls_table(result), "", *foot(result)]
+        lines += [*multicast_table(result), *transfers_table(result), *calls_table(result), "", *foot(result)]
     if len(results) > 1:
         lines += ["", "== compared ==", *comparison(scenario, results)]
     if program:

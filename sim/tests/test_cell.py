@@ -22,6 +22,7 @@ from sim.scenario import Scenario
 from .support import ONE_STATION, THREE_STATIONS, fates, machine, program, run, scenario
 from .test_agreements import FIRST_FRAME, LEAVING as LEAVING_HELD, SLEEPING as SLEEPING_HELD
 from .test_machine import COMING_AND_GOING, SLEEPING, TCP
+from .test_multicast import RESTLESS, with_period
 from .test_offload import LEAVING, OFFLOADED, SLEEPING as SLEEPING_OFFLOADED
 
 MIXED = THREE_STATIONS + """
@@ -91,6 +92,7 @@ class TheCell(unittest.TestCase):
         charged = THREE_STATIONS + "[air]\ncharge_access = true\n"
         chosen_all = [scenario(text) for text in (THREE_STATIONS, COMING_AND_GOING, SLEEPING, TCP, MIXED, charged)]
         chosen_all += [scenario(text) for text in (OFFLOADED, SLEEPING_OFFLOADED, LEAVING, FIRST_FRAME, SLEEPING_HELD, LEAVING_HELD, LEGACY)]
+        chosen_all.append(scenario(with_period(RESTLESS, 2)))
         for chosen in [*chosen_all, *(one.with_settings(device) for one in chosen_all)]:
             (ours, here), (theirs, there) = (run(chosen, path) for path in (inside(chosen), machine(chosen)))
             self.assertEqual(fates(ours), fates(theirs))

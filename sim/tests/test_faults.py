@@ -32,7 +32,7 @@ FAULTS = [  # a file's text, and what is reported after the file's name
     ("second = 1\n" + GOOD, 'unknown key "second": did you mean seconds?'),
     (
         "xyz = 1\n" + GOOD,
-        'unknown key "xyz": expected one of seconds, station, title, note, warmup, seed, machine, models, air, flow, compare, plot',
+        'unknown key "xyz": expected one of seconds, station, flow, title, note, warmup, seed, machine, models, air, compare, plot',
     ),
     ("air = 1\n" + GOOD, "air = 1: expected a table [air]"),
     ("station = 1\n" + TOP + FLOW, "station = 1: expected tables [[station]]"),
@@ -149,7 +149,7 @@ FAULTS = [  # a file's text, and what is reported after the file's name
     ),
     (
         GOOD + SECOND + 'tcp = "reno"\necho = true\n',
-        f'[[flow]] 2: unknown key "echo": expected one of station, {KINDS}, start, stop, name, tid, size, offset_ms, octets, delay_ms, direction',
+        f'[[flow]] 2: unknown key "echo": expected one of to, station, {KINDS}, start, stop, name, tid, size, offset_ms, octets, delay_ms, direction',
     ),
     (GOOD + FLOW + "tid = 8\n", "[[flow]] 2: tid = 8: expected a whole number from 0 to 7"),
     (GOOD + FLOW + "size = 2305\n", "[[flow]] 2: size = 2305: expected octets from 1 to 2304, or a list of pairs [octets, weight]"),
@@ -163,7 +163,7 @@ FAULTS = [  # a file's text, and what is reported after the file's name
     (GOOD + FLOW + 'echo = "yes"\n', '[[flow]] 2: echo = "yes": expected true or false'),
     (
         GOOD + FLOW + "window = 3\n",
-        f'[[flow]] 2: unknown key "window": expected one of station, {KINDS}, start, stop, name, tid, size, offset_ms, burst, direction, echo',
+        f'[[flow]] 2: unknown key "window": expected one of to, station, {KINDS}, start, stop, name, tid, size, offset_ms, burst, direction, echo',
     ),
     (GOOD + SECOND + "mbit = 0\n", "[[flow]] 2: mbit = 0: expected a number from 0.001 to 100000"),
     (GOOD + SECOND + "flood_mbit = 1e9\n", "[[flow]] 2: flood_mbit = 1e+09: expected a number from 0.001 to 100000"),

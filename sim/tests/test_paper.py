@@ -75,7 +75,7 @@ class Command(unittest.TestCase):
             main([])
 
     def write(self, folder: str) -> tuple[int, str]:
-        """Writes the page of runs that are made up."""
+        """Writes the page of synthetic runs."""
         run = unittest.mock.patch("sim.cli.side_by_side", side_effect=lambda given, groups: [numbers(job) for group in groups for job in group])
         with run, unittest.mock.patch("sim.cli.find_program", return_value=NONE):
             self.assertEqual(self.call(f"{folder}/PAPER.md", "--seeds", "1", "--seconds", "1")[0], 2)
