@@ -89,8 +89,8 @@ static int read_queues(const struct wf_path *path) {
          wf_path_octets(path, 0, TID, &octets) == WF_OK && octets == left &&
          wf_path_octets(path, 0, 0, &none) == WF_OK && none == 0 &&
          wf_path_codel(path, FLOW, &codel) == WF_OK && codel.octets == left && codel.dropping == 1 && codel.drop_count == 1 &&
-         codel.drop_next == WAIT + 2 * PERIOD &&
-         wf_path_codel(path, settings.flows + TID, &over) == WF_OK && over.octets == 0 && over.dropping == 0 &&
+         codel.drop_next == WAIT + 2 * PERIOD && codel.dropped == 1 &&
+         wf_path_codel(path, settings.flows + TID, &over) == WF_OK && over.octets == 0 && over.dropping == 0 && over.dropped == 0 &&
          wf_path_codel(path, queues - 1, &over) == WF_OK && wf_path_codel(path, queues, &over) == WF_BAD_INDEX &&
          wf_path_pending(path, 0, WF_BE, &first) == WF_OK && first == air &&
          wf_path_pending(path, 0, WF_VI, &both) == WF_OK && both == airs;
@@ -110,14 +110,17 @@ static int read_exchange(const struct wf_path *path) {
 }
 
 static int read_path(const struct wf_path *path) {
-  uint8_t tim[256] = {0}, base[6] = {0}, address[6] = {0};
+  uint8_t tim[256] = {0}, base[6] = {0}, address[6] = {0}, header[WF_GROUP_HEADER] = {0};
+  struct wf_group_counts counts = {0};
   struct wf_tally tally = {0};
   struct wf_share share = {0};
   wf_path_tally(path, &tally);
+  wf_path_group_counts(path, &counts);
   wf_path_base(path, base);
   if (base[0] != 2 || wf_path_address(path, 1, address) || address[5] != 1) return 0;
   return wf_path_now(path) == WAIT + PERIOD && wf_path_exchanges(path) == 3 && wf_path_open_count(path) == 3 && wf_path_live(path, 0) == 1 &&
-         wf_path_share(path, 0, WF_BE, &share) == WF_OK && wf_path_tim(path, tim) == 6 && wf_path_tim_of(path, base, tim) == 6 &&
+         wf_path_share(path, 0, WF_BE, &share) == WF_OK && wf_path_tim(path, 0, 1, 0, tim) == 6 &&
+         wf_path_tim_of(path, base, 2, 3, 1, tim) == 6 && wf_path_group_header(path, base, header) == WF_NOTHING && counts.accepted == 0 &&
          tally.accepted == 1 + FRAMES && tally.codel == 1 && wf_path_can_pull(path, WF_BE) == 0 && wf_path_listed(path, 0, WF_BE) > 0 &&
          wf_path_listed(path, 1, WF_BE) == 0 && wf_path_has_small_counts(path) == 1 && read_exchange(path) && read_tid(path) &&
          read_queues(path);
@@ -145,7 +148,7 @@ static void *read_all(void *given) {
   return given;
 }
 
-/* Whether each of some threads has read what is there. */
+/* Returns whether each of several threads has read path and cell. */
 static int read_at_once(struct handles *handles) {
   pthread_t threads[THREADS];
   int i, all = 1;

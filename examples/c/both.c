@@ -103,9 +103,11 @@ static uint8_t some_kind(void) {
   static const uint8_t KINDS[] = {WF_CALL_PULL, WF_CALL_PULL, WF_CALL_PULL, WF_CALL_ARRIVE, WF_CALL_ARRIVE, WF_CALL_ARRIVE, WF_CALL_ARRIVE,
                                   WF_CALL_ARRIVE, WF_CALL_ARRIVE, WF_CALL_ANSWER, WF_CALL_ANSWER, WF_CALL_DONE, WF_CALL_DONE, WF_CALL_UNSENT, WF_CALL_GIVEUP};
   static const uint8_t MODES[] = {WF_CALL_HOLD, WF_CALL_BEGIN, WF_CALL_BEGIN, WF_CALL_FREE, WF_CALL_CEASE};
+  static const uint8_t GROUPS[] = {WF_CALL_GROUP, WF_CALL_GROUP, WF_CALL_BEACON, WF_CALL_GPULL, WF_CALL_GDONE};
   uint8_t kind;
   if (below(8)) return KINDS[below(sizeof KINDS)];
   if (below(4) == 0) return MODES[below(sizeof MODES)];
+  if (below(3) == 0) return GROUPS[below(sizeof GROUPS)];
   kind = (uint8_t)below(WF_CALL_CEASE);
   return (uint8_t)(kind < WF_CALL_REAP ? kind : kind + 1);
 }
@@ -146,6 +148,7 @@ static void call_ask(uint32_t caller, uint16_t station) {
   if (call.kind == WF_CALL_PULL && below(2)) call.air = 0;
   call.frames = below(2) ? below(9) : 0;
   call.octets = 4000 + below(100000);
+  call.length = (uint16_t)(1 + below(WF_GREATEST_BODY));
   call.window = (uint16_t)(below(4) ? 1 + below(64) : 1 + below(257));
   call.start = (uint16_t)below(4100);
   call.exponent = (uint8_t)below(5);
@@ -277,6 +280,10 @@ static void write_entry(uint64_t place) {
     case WF_CALL_BEGIN: fprintf(trace, "begin %u %u %u\n", s, (unsigned)c.tid, (unsigned)c.window); break;
     case WF_CALL_FREE: fprintf(trace, "free %u %u\n", s, (unsigned)c.tid); break;
     case WF_CALL_CEASE: fprintf(trace, "cease %u %u\n", s, (unsigned)c.tid); break;
+    case WF_CALL_GROUP: fprintf(trace, "group %u\n", (unsigned)c.length); break;
+    case WF_CALL_BEACON: fprintf(trace, "beacon\n"); break;
+    case WF_CALL_GPULL: fprintf(trace, "gpull\n"); break;
+    case WF_CALL_GDONE: fprintf(trace, "gdone\n"); break;
     default: fail("an entry of no kind");
   }
 }
@@ -292,11 +299,14 @@ static void open_cell(uint32_t calls) {
   settings.sleeping = 8;
   settings.charge = CHARGE;
   settings.legacy = 2;
+  settings.period = 2;
+  settings.buffered = 5;
   settings.calls = 0;
   if (wf_cell_make(&cell, &settings) != WF_BAD_SETTING + 12) fail("a history of no calls is taken");
   settings.calls = calls;
   if (wf_cell_make(&cell, &settings)) fail("there is no cell");
-  fprintf(trace, "cell stations=%d flows=32 limit=40 room=400 attempts=4 sleeping=8 charge=%d legacy=2\n", STATIONS, CHARGE);
+  fprintf(trace, "cell stations=%d flows=32 limit=40 room=400 attempts=4 sleeping=8 charge=%d legacy=2 period=2 buffered=5\n", STATIONS,
+          CHARGE);
 }
 
 /* Checks that with a full history each call is refused and is no entry. */

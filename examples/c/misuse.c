@@ -38,6 +38,8 @@ static const uint32_t OUTSIDE[][2] = {
     {2u, 2u}, /* answers */
     {2u, 2u}, /* credits */
     {3u, 3u}, /* legacy */
+    {256u, 256u}, /* period */
+    {65536u, 65536u}, /* buffered */
     /* end outside */
 };
 
@@ -198,11 +200,33 @@ static void misuse_bsses(void) {
   want(wf_path_set_aid(&path, 65535, 0), WF_BAD_STATION, "the association identifier 0 of no station");
   want(wf_path_set_aid(&path, 3, 2007), WF_OK, "the association identifier of a station that is not live");
   want(wf_path_set_bss(&path, 3, REAL), WF_OK, "the BSS of a station that is not live");
-  want(wf_path_tim(&path, tim) == 6, 1, "the TIM of stations without traffic");
-  want(wf_path_tim_of(&path, REAL, other) == 6, 1, "the TIM of a BSS without traffic");
+  want(wf_path_tim(&path, 0, 1, 0, tim) == 6, 1, "the TIM of stations without traffic");
+  want(wf_path_tim_of(&path, REAL, 0, 1, 0, other) == 6, 1, "the TIM of a BSS without traffic");
   unchanged(other, tim, sizeof other, "the TIM of a BSS without traffic");
-  want(wf_path_tim_of(&path, GROUP, other) == 6, 1, "the TIM of a BSS that there is not");
+  want(wf_path_tim_of(&path, GROUP, 0, 1, 0, other) == 6, 1, "the TIM of a BSS that there is not");
   unchanged(other, tim, sizeof other, "the TIM of a BSS that there is not");
+}
+
+/* Group frames that no path takes, and the end of one that is not on the air. */
+static void misuse_groups(void) {
+  static const uint8_t GROUP[6] = {0x01, 0, 0x5e, 0, 0, 1}, REAL[6] = {0x00, 0, 0x5e, 0, 0x53, 2};
+  struct wf_group frame = {7, 7, 7, {7, 7, 7, 7, 7, 7}}, same = frame;
+  struct wf_group_counts counts = {0};
+  struct wf_reply before = reply;
+  uint8_t header[WF_GROUP_HEADER] = {0}, zeros[WF_GROUP_HEADER] = {0};
+  want(wf_path_group(&path, REAL, 0, 1, &reply), WF_BAD_LENGTH, "a group frame without octets");
+  want(wf_path_group(&path, GROUP, WF_GREATEST_BODY + 1, 1, &reply), WF_BAD_LENGTH, "a group frame that is too long");
+  want(wf_path_group(&path, REAL, 100, 1, &reply), WF_BAD_ADDRESS, "a group frame for a station");
+  unchanged(&reply, &before, sizeof reply, "a group frame that is none");
+  want(wf_path_group(&path, GROUP, 100, 1, &reply), WF_BUFFERED, "a group frame where none may wait");
+  want(wf_path_group_pull(&path, &frame, &reply), WF_IDLE, "a group frame from an empty queue");
+  want(wf_path_group_done(&path, &frame, &reply), WF_NOTHING, "the end of no group frame");
+  unchanged(&frame, &same, sizeof frame, "no group frame");
+  want(wf_path_group_header(&path, REAL, header), WF_NOTHING, "the header of no group frame");
+  unchanged(header, zeros, sizeof header, "the header of no group frame");
+  want(wf_path_beacon(&path, &reply), WF_OK, "a beacon");
+  wf_path_group_counts(&path, &counts);
+  want(counts.accepted == 0 && counts.numbers == 1, 1, "the counts of group frames");
 }
 
 static void misuse_joins(void) {
@@ -385,8 +409,10 @@ static void misuse_bursts(void) {
   misuse_burst(call, WF_OK, "a mark of no exchange");
   call.kind = WF_CALL_HOLD;
   misuse_burst(call, WF_OK, "a hold of a TID with an agreement");
-  call.kind = WF_CALL_CEASE + 1;
+  call.kind = WF_CALL_GDONE + 1;
   misuse_burst(call, WF_BAD_CALL, "a call of no kind");
+  call.kind = WF_CALL_GROUP;
+  misuse_burst(call, WF_BAD_CALL, "a group frame without octets");
   call.kind = WF_CALL_PULL;
   call.class_ = 4;
   misuse_burst(call, WF_BAD_CALL, "a pull of class 4");
@@ -771,6 +797,7 @@ static void misuse_path(void) {
   misuse_queues();
   misuse_addresses();
   misuse_bsses();
+  misuse_groups();
   misuse_joins();
   misuse_rates();
   misuse_clock();
@@ -820,8 +847,13 @@ static void misuse_cell(void) {
   want(wf_cell_ask(&cell, 0, &call, &reply), WF_BAD_CALL, "a frame without its body");
   call.kind = WF_CALL_REAP;
   want(wf_cell_ask(&cell, 0, &call, &reply), WF_BAD_CALL, "a reap without its struct");
-  call.kind = WF_CALL_CEASE + 1;
+  call.kind = WF_CALL_GDONE + 1;
   want(wf_cell_ask(&cell, 0, &call, &reply), WF_BAD_CALL, "a call of no kind");
+  call.kind = WF_CALL_GROUP;
+  want(wf_cell_ask(&cell, 0, &call, &reply), WF_BAD_CALL, "a group frame without octets");
+  call.length = WF_GREATEST_BODY + 1;
+  want(wf_cell_ask(&cell, 0, &call, &reply), WF_BAD_CALL, "a group frame that is too long");
+  call.length = 0;
   call.kind = WF_CALL_RATE;
   call.form = WF_FORM_DSSS + 1;
   want(wf_cell_ask(&cell, 0, &call, &reply), WF_BAD_CALL, "a rate of no format");

@@ -209,6 +209,27 @@ class Path {
     return wf_path_reap(&handle_, &reply, &taken, nullptr, 0);
   }
 
+  /* Group frames and beacons. */
+
+  [[nodiscard]] std::int32_t group(const std::uint8_t (&to)[6], std::uint16_t length, std::uint64_t tag, wf_reply &reply) {
+    return wf_path_group(&handle_, to, length, tag, &reply);
+  }
+  [[nodiscard]] std::int32_t beacon(wf_reply &reply) { return wf_path_beacon(&handle_, &reply); }
+  [[nodiscard]] std::int32_t group_pull(wf_group &frame, wf_reply &reply) {
+    return wf_path_group_pull(&handle_, &frame, &reply);
+  }
+  [[nodiscard]] std::int32_t group_header(const std::uint8_t (&source)[6], std::uint8_t (&out)[WF_GROUP_HEADER]) const {
+    return wf_path_group_header(&handle_, source, out);
+  }
+  [[nodiscard]] std::int32_t group_done(wf_group &frame, wf_reply &reply) {
+    return wf_path_group_done(&handle_, &frame, &reply);
+  }
+  wf_group_counts group_counts() const {
+    wf_group_counts counts{};
+    wf_path_group_counts(&handle_, &counts);
+    return counts;
+  }
+
   /* An open exchange, and its end. */
 
   [[nodiscard]] std::int32_t sent(std::uint64_t exchange, wf_sent &out) const {
@@ -302,9 +323,12 @@ class Path {
   [[nodiscard]] std::int32_t drained(std::uint16_t station, std::uint8_t tid, std::uint32_t &out) const {
     return wf_path_drained(&handle_, station, tid, &out);
   }
-  std::size_t tim(std::uint8_t (&out)[256]) const { return wf_path_tim(&handle_, out); }
-  std::size_t tim_of(const std::uint8_t (&bss)[6], std::uint8_t (&out)[256]) const {
-    return wf_path_tim_of(&handle_, bss, out);
+  std::size_t tim(std::uint8_t count, std::uint8_t period, bool group, std::uint8_t (&out)[256]) const {
+    return wf_path_tim(&handle_, count, period, group, out);
+  }
+  std::size_t tim_of(const std::uint8_t (&bss)[6], std::uint8_t count, std::uint8_t period, bool group,
+                     std::uint8_t (&out)[256]) const {
+    return wf_path_tim_of(&handle_, bss, count, period, group, out);
   }
 
  private:

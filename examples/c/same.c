@@ -19,7 +19,7 @@
 #include "wf.h"
 
 enum { STATIONS = 6, NUMBERS = 4096, OPEN = 32, CHARGE = 5000, DEBT = 9000, TICK = 10000000, ATTEMPTS = 4 };
-enum { FLOWS = 32, SETTINGS = 25, IDS = 1 << 20, AIDS = 2008 };
+enum { FLOWS = 32, SETTINGS = 27, IDS = 1 << 20, AIDS = 2008, DTIM = 3, BUFFERED = 4 };
 
 /* An open exchange. */
 struct exchange {
@@ -52,6 +52,8 @@ static int open_count;
 static struct session sessions[STATIONS][8];
 static uint16_t windows[STATIONS][8]; /* 1 without an agreement */
 static uint8_t given_up[IDS]; /* by id: 1 if a transmission of the frame was given up */
+static struct wf_group group_frame; /* the group frame on the air */
+static uint8_t dtim_count, announced; /* what the latest beacon said */
 static uint32_t seed;
 static long lines;
 static FILE *trace, *answers;
@@ -125,16 +127,21 @@ static uint64_t queued_octets(uint16_t s) {
   return all;
 }
 
-/* Checks that the queues together have the octets of all stations. */
+/* Checks that the queues together have the octets of all stations, and that CoDel dropped the frames of the
+ * tally. */
 static void look_at_queues(void) {
   struct wf_codel codel = {0};
-  uint64_t all = 0;
+  struct wf_tally tally = {0};
+  uint64_t all = 0, dropped = 0;
   uint32_t queue;
   uint16_t s;
   for (queue = 0; wf_path_codel(&path, queue, &codel) == WF_OK; queue++) {
     if (codel.dropping > 1 || codel.drop_count < codel.dropping) fail("a queue that drops, and has dropped nothing");
     all += codel.octets;
+    dropped += codel.dropped;
   }
+  wf_path_tally(&path, &tally);
+  if (dropped != tally.codel) fail("another number of frames that CoDel dropped");
   if (queue != FLOWS + 8 * STATIONS) fail("another number of queues");
   for (s = 0; s < STATIONS; s++) {
     if (wf_path_live(&path, s)) all -= queued_octets(s);
@@ -340,11 +347,13 @@ static void note_tim(const uint8_t tim[256], size_t size, uint8_t shown[AIDS]) {
 static void look_at_tims(void) {
   uint8_t whole[AIDS] = {0}, together[AIDS] = {0}, tim[256] = {0};
   uint16_t s;
-  note_tim(tim, wf_path_tim(&path, tim), whole);
+  note_tim(tim, wf_path_tim(&path, 1, 5, 0, tim), whole);
+  if (tim[2] != 1 || tim[3] != 5 || tim[4] % 2) fail("another count or period in the TIM, or a bit");
   for (s = 0; s < STATIONS; s++) {
     uint8_t shown[AIDS] = {0};
     uint16_t other;
-    note_tim(tim, wf_path_tim_of(&path, bss_of(s), tim), shown);
+    note_tim(tim, wf_path_tim_of(&path, bss_of(s), 0, 255, 2, tim), shown);
+    if (tim[2] != 0 || tim[3] != 255 || tim[4] % 2 == 0) fail("another count or period in the TIM of a BSS, or no bit");
     if (whole[aids[s]] == 0 && shown[aids[s]]) fail("a station in the TIM of its BSS alone");
     for (other = 0; other < STATIONS; other++) {
       if (memcmp(bss_of(s), bss_of(other), 6) == 0 && shown[aids[other]]) together[aids[other]] = 1, shown[aids[other]] = 0;
@@ -754,12 +763,69 @@ static void call_other(uint16_t s) {
   write_answer(code, NULL);
 }
 
+/* Accepts a group frame for one of two addresses. Its tag has its length. */
+static void call_group(void) {
+  uint8_t to[6] = {0x01, 0, 0x5e, 0, 0, (uint8_t)below(2)};
+  uint16_t length = (uint16_t)(1 + below(WF_GREATEST_BODY));
+  int32_t code = wf_path_group(&path, to, length, (uint64_t)length << 8 | to[5], &reply);
+  fprintf(trace, "group %u\n", (unsigned)length);
+  write_answer(code, NULL);
+}
+
+/* Checks the header of the group frame on the air by the answer to its pull. */
+static void look_at_the_group_header(void) {
+  static const uint8_t SOURCE[6] = {0x02, 0, 0, 9, 9, 9};
+  uint8_t header[WF_GROUP_HEADER] = {0};
+  if (wf_path_group_header(&path, SOURCE, header)) fail("no header of a group frame");
+  if (header[0] != 8 || header[1] != (reply.more ? 0x22 : 2) || header[2] || header[3]) fail("another frame control of a group frame");
+  if (memcmp(header + 4, group_frame.to, 6) || memcmp(header + 10, base, 6) || memcmp(header + 16, SOURCE, 6)) fail("another address of a group frame");
+  if (header[22] != (uint8_t)(reply.start << 4) || header[23] != reply.start >> 4) fail("another number of a group frame");
+}
+
+static void call_group_pull(void) {
+  int32_t code = wf_path_group_pull(&path, &group_frame, &reply);
+  fprintf(trace, "gpull\n");
+  write_answer(code, NULL);
+  if (code) return;
+  if (group_frame.id != reply.id || group_frame.tag != ((uint64_t)group_frame.length << 8 | group_frame.to[5])) fail("another group frame");
+  look_at_the_group_header();
+}
+
+static void call_group_done(void) {
+  struct wf_group frame = {0};
+  int32_t code = wf_path_group_done(&path, &frame, &reply);
+  fprintf(trace, "gdone\n");
+  write_answer(code, NULL);
+  if (code == WF_OK && (frame.id != reply.id || frame.tag != group_frame.tag || memcmp(frame.to, group_frame.to, 6))) fail("the end of another group frame");
+}
+
+static void call_beacon(void) {
+  int32_t code = wf_path_beacon(&path, &reply);
+  fprintf(trace, "beacon\n");
+  write_answer(code, NULL);
+  dtim_count = (uint8_t)reply.count;
+  announced = reply.more;
+}
+
+/* Makes a call about group frames, and checks that these add up. */
+static void call_about_groups(void) {
+  struct wf_group_counts counts = {0};
+  uint32_t which = below(6);
+  if (which < 2) call_group();
+  else if (which < 4) call_group_pull();
+  else if (which < 5) call_group_done();
+  else call_beacon();
+  wf_path_group_counts(&path, &counts);
+  if (counts.accepted != counts.sent + counts.queued + counts.flying || counts.queued > BUFFERED) fail("group frames that do not add up");
+}
+
 static void call(void) {
   uint16_t s = (uint16_t)below(below(100) ? STATIONS : STATIONS + 1);
   uint32_t which = below(100);
   if (below(50) == 0) call_address();
   if (below(50) == 0) call_bss(), call_aid(), look_at_tims();
   if (below(25) == 0) call_mark();
+  if (below(10) == 0) call_about_groups();
   if (which < 39) call_enqueue(s);
   else if (which < 57) call_pull();
   else if (which < 75) call_done();
@@ -784,6 +850,7 @@ static uint64_t held_of(const struct wf_tally *t) {
 static void summary(void) {
   struct wf_tally t = {0};
   struct wf_share share = {0};
+  struct wf_group_counts groups = {0};
   uint8_t tim[256] = {0};
   size_t i, size;
   uint16_t s;
@@ -808,7 +875,10 @@ static void summary(void) {
   for (s = 0; s < STATIONS; s++) {
     if (wf_path_set_aid(&path, s, (uint16_t)(s + 1))) fail("no placeholder for an association identifier");
   }
-  size = wf_path_tim(&path, tim);
+  wf_path_group_counts(&path, &groups);
+  fprintf(answers, "group %llu sent %llu held %lu air %llu\n", (unsigned long long)groups.accepted, (unsigned long long)groups.sent,
+          (unsigned long)(groups.queued + groups.flying), (unsigned long long)groups.air);
+  size = wf_path_tim(&path, dtim_count, DTIM, announced, tim);
   fprintf(answers, "tim ");
   for (i = 0; i < size; i++) fprintf(answers, "%02x", tim[i]);
   fprintf(answers, "\n");
@@ -858,6 +928,8 @@ static void open_path(void) {
   if (wf_path_make(&path, &settings) != WF_BAD_SETTING + 14) fail("a debt of 1000001 is taken");
   settings.debt = DEBT;
   settings.legacy = 2;
+  settings.period = DTIM;
+  settings.buffered = BUFFERED;
   if (wf_path_make(&path, &settings)) fail("there is no path");
   write_settings(&settings);
   for (s = 0; s < STATIONS; s++) {

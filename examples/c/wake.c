@@ -1,12 +1,12 @@
 /*
  * A driver over libwf as its author would write it, with a small model of a device. The device has a hardware
  * queue for each class, and works by itself on a thread, as by interrupts: it sends the jobs in its queues,
- * sends again what was lost on the air, measures the airtime of all of it, and makes the station's BlockAck.
- * The access point and the stations have their own addresses, which the driver sets. One lock protects the
- * path. Each packet is in a buffer of a pool; its tag is the number of the buffer, which is free again after
- * the frame is reaped. The device gathers: the path has no octets of a packet, and writes only headers. The
- * memory for its frames is taken before the lock is used. The upper queue, from which packets come, is stopped while a station's TID has many
- * queued frames or no buffer is free, and is woken when it may continue.
+ * repeats lost transmissions, measures their airtime, and makes the station's BlockAck. The access point and
+ * the stations have their own addresses, which the driver sets. One lock protects the path. Each packet is in
+ * a buffer of a pool; its tag is the number of the buffer, which is free again after the frame is reaped. The
+ * device gathers: the path has no octets of a packet, and writes only headers. The memory for its frames is
+ * taken before the lock is used. The upper queue, from which packets come, is stopped while a station's TID
+ * has many queued frames or no buffer is free, and is woken when it may continue.
  */
 #include <pthread.h>
 #include <stdint.h>

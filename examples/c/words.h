@@ -40,7 +40,7 @@ static void write_reaped(FILE *out, const struct wf_reply *reply) {
 
 /* Returns whether the word of a refusal has a number after it that is the `count` of the reply. */
 static int has_count(uint8_t refusal) {
-  return (refusal >= WF_OPEN && refusal <= WF_FULL) || refusal == WF_WAITS;
+  return (refusal >= WF_OPEN && refusal <= WF_FULL) || refusal == WF_WAITS || refusal == WF_BUFFERED;
 }
 
 static void write_refusal(FILE *out, const struct wf_reply *reply) {
@@ -50,6 +50,12 @@ static void write_refusal(FILE *out, const struct wf_reply *reply) {
   if (reply->refusal == WF_DEBT) fprintf(out, " %lld", (long long)reply->deficit);
   if (reply->refusal == WF_AHEAD) fprintf(out, " %lu", (unsigned long)reply->air);
   if (has_count(reply->refusal)) fprintf(out, " %lu", (unsigned long)reply->count);
+}
+
+/* Writes the group frame to send: its id, its sequence number, its airtime and the More Data bit. */
+static void write_group(FILE *out, const struct wf_reply *reply) {
+  fprintf(out, " %llu %u air %lu", (unsigned long long)reply->id, (unsigned)reply->start, (unsigned long)reply->air);
+  if (reply->more) fprintf(out, " more");
 }
 
 /* Writes the line of an answer of a path. Returns 0 if only a cell has this answer, and then writes nothing. The
@@ -75,6 +81,10 @@ static int write_words(FILE *out, const struct wf_reply *reply, const struct wf_
     case WF_KIND_CHARGED: fprintf(out, " %lld", (long long)reply->deficit); break;
     case WF_KIND_REAPED: write_reaped(out, reply); break;
     case WF_KIND_REFUSED: write_refusal(out, reply); break;
+    case WF_KIND_QUEUED:
+    case WF_KIND_GDONE: fprintf(out, " %llu", (unsigned long long)reply->id); break;
+    case WF_KIND_BEACON: fprintf(out, " %lu %u", (unsigned long)reply->count, (unsigned)reply->more); break;
+    case WF_KIND_GSEND: write_group(out, reply); break;
     default: break;
   }
   fprintf(out, "\n");

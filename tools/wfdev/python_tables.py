@@ -10,7 +10,7 @@ from wfdev.header import Enumerator, Function, Member, Struct
 from wfdev.table_rows import constant
 
 WIDTH = 110
-FIRST_BLOCK_CODE, SETTING_CODE = 50, 100
+FIRST_BLOCK_CODE, SETTING_CODE = 70, 100
 # For each scalar of C: the type of ctypes and the letter of the module struct.
 SCALARS = {
     "uint8_t": ("c_uint8", "B"),
@@ -240,7 +240,7 @@ def tables_module(wf_h: str, settings: Sequence[Row]) -> str:
     known = header.constants(wf_h)
     lines = [*HEAD.splitlines(), ""]
     lines.append(f"VERSION = ({known['VERSION_MAJOR']}, {known['VERSION_MINOR']}, {known['VERSION_PATCH']})")
-    lines += [f"{name} = {known[name]}" for name in ("GREATEST_BODY", "GREATEST_MPDU", "HEADER")]
+    lines += [f"{name} = {known[name]}" for name in ("GREATEST_BODY", "GREATEST_MPDU", "HEADER", "GROUP_HEADER")]
     lines.append(f"BAD_SETTING = {SETTING_CODE}")
     classes = "The access classes, from the lowest priority to the highest."
     lines += enum_class("AccessClass", classes, header.enum(wf_h, "wf_class"))

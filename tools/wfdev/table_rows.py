@@ -17,7 +17,7 @@ REFUSALS = Path("crates/wf_frame/tables/refusals.toml")
 # The settings and the reserved numbers after them in `struct wf_settings`.
 PLACES = 32
 # The greatest number of a refusal: the next code of include/wf.h is WF_NO_MEMORY.
-LAST_REFUSAL = 39
+LAST_REFUSAL = 59
 # wf_frame promises that the words of settings and of refusals have at most this length.
 LONGEST_WORD = 12
 GREATEST = 2**32 - 1

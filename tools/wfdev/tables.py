@@ -37,7 +37,9 @@ HELP_COLUMN = 34
 
 
 def commented(code: str, said: str, column: int) -> list[str]:
-    """A line of C with a comment that begins in a column, on several lines if it is long."""
+    """A line of C with a comment that begins in a column, on several lines if it is long. An empty comment is left out."""
+    if not said:
+        return [code]
     words = textwrap.wrap(said, HEADER_WIDTH - column - len("/*  */"), break_long_words=False, break_on_hyphens=False)
     lines = [f"{code.ljust(column)}/* {words[0]}", *(" " * column + f" * {more}" for more in words[1:])]
     return [*lines[:-1], lines[-1] + " */"]

@@ -14,8 +14,9 @@ the same work as the gate of wf_show_gate. The column `burst` has calls through 
 runs, less that of a run without calls, over the calls of all threads: in the fastest run the threads may have come one after another.
 A run that takes too long is cut off: a lock that spins may take long if there are more threads than processors.
 
-The cells are in threads.d/wf_show_cell, which is built without proofs: the calls of threads that give frames to one cell and reap
-them, one by one and in bursts of 16, and the same calls of one thread without a gate. The times are those of the clock, as above.
+The cells are in threads.d/wf_show_cell, which is built without proofs: the calls of threads that share one cell, one by one and in
+bursts of 16, and the same calls of one thread without a gate. In the mix `whole`, 16 calls make a whole exchange of four
+frames; in the mix `light` frames are given and reaped. The times are by the clock, as above.
 """
 import os
 import re
@@ -49,6 +50,7 @@ LONGEST = 10  # seconds of a run
 CELL = "wf_show_cell"
 CELL_THREADS = (2, 4)
 CELL_CALLS = 480_000
+MIXES = ("whole", "light")
 SOAK = ["soak", "1", "1000000"]
 
 
@@ -188,11 +190,11 @@ def built_cells(room: Path) -> Path:
     return program
 
 
-def nanoseconds(program: Path, way: str, threads: int) -> float:
+def nanoseconds(program: Path, mix: str, way: str, threads: int) -> float:
     """Returns the nanoseconds of a call of the median run, by the clock, less those of a run without calls."""
     of_each = CELL_CALLS // threads
     shared = [] if way == BARE else [str(threads)]
-    runs = [[run(program, [way, str(calls), *shared]).seconds for calls in (of_each, 0)] for _ in range(RUNS)]
+    runs = [[run(program, [mix, way, str(calls), *shared]).seconds for calls in (of_each, 0)] for _ in range(RUNS)]
     return statistics.median((full - empty) / (threads * of_each) * 1e9 for full, empty in runs)
 
 
@@ -200,14 +202,15 @@ def print_cells() -> None:
     """Prints what a call of a cell costs at a gate, one by one and in bursts, and without a gate."""
     with tempfile.TemporaryDirectory(prefix="wf-cells-") as room:
         program = built_cells(Path(room))
-    bare = nanoseconds(program, BARE, 1)
-    print(f"{processors()} processors, a load of {os.getloadavg()[0]:.1f} before; a cell's call without a gate takes {bare:.0f} ns")
-    print("| threads | calls | gate, ns | burst, ns | gate / bare | burst / bare |")
-    print("|---|---|---|---|---|---|")
-    for threads in CELL_THREADS:
-        gate, burst = (nanoseconds(program, way, threads) for way in AT_GATE)
-        shown = f"{gate:.0f} | {burst:.0f} | {ratio(gate, bare)} | {ratio(burst, bare)}"
-        print(f"| {threads} | {CELL_CALLS} | {shown} |", flush=True)
+    print(f"{processors()} processors, a load of {os.getloadavg()[0]:.1f} before; {CELL_CALLS} calls")
+    print("| mix | threads | bare, ns | gate, ns | burst, ns | gate / bare | burst / bare |")
+    print("|---|---|---|---|---|---|---|")
+    for mix in MIXES:
+        for threads in CELL_THREADS:
+            bare = nanoseconds(program, mix, BARE, 1)
+            gate, burst = (nanoseconds(program, mix, way, threads) for way in AT_GATE)
+            shown = f"{bare:.0f} | {gate:.0f} | {burst:.0f} | {ratio(gate, bare)} | {ratio(burst, bare)}"
+            print(f"| {mix} | {threads} | {shown} |", flush=True)
 
 
 def program_of(named: Path | None) -> Path:

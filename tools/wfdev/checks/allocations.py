@@ -1,6 +1,6 @@
 """Counts what the built program requests of memory, refuses each request in turn, and prints a table.
 
-Each command runs on a small input. If nothing is refused, its requests and their octets are those of allocations.d/counts.txt,
+Each command runs on a small input. If nothing is refused, its requests and their octets equal those of allocations.d/counts.txt,
 so nothing is made twice, and it frees all of them. Then it runs once for each request: a library loaded before the program
 refuses that one. The first run that makes fewer requests ends the row. A run is good if it ends with status 5 and its line on
 standard error (or as if nothing had been refused, if the program did not need the memory), its output is a prefix of the whole
@@ -39,7 +39,7 @@ class Ended:
 
 @dataclass(frozen=True)
 class Counts:
-    """What a run requests of memory: the requests, their octets, and the pieces that it does not free."""
+    """The memory of a run: the requests, their octets, and the pieces that it does not free."""
 
     requests: int
     octets: int

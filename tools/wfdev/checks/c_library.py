@@ -1,7 +1,7 @@
 """Builds the C programs of examples/c with the static library, runs them, and compares the library's answers with a replay.
 
-First it reads the header alone, without a warning, as each standard from C89 to C23 and from C++98 to C++23, with gcc and with clang, as
-far as they are there and know the standard.
+First it reads the header alone, without a warning, as each standard from C89 to C23 and from C++98 to C++23, with gcc and with clang, if
+they are installed and know the standard.
 
 The library is the proved one that `./wf lib` left if it is as new as the sources, else the unproved one, which is built if
 necessary. The programs are built without a warning: plainly, with the address and undefined-behaviour sanitizers, which also see

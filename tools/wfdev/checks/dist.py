@@ -161,8 +161,8 @@ def pull_in_python(prefix: Path, room: Path, root: Path) -> str:
 
 
 def run_in_empty_root(prefix: Path, room: Path) -> str:
-    """Runs the program on the examples, and a program in C that was built, in a root that has only what was
-    unpacked and the C library. Returns a message about it."""
+    """Runs the program on the examples, and a program in C that was built, in a root that has only the
+    unpacked files and the C library. Returns a message about it."""
     chroot = shutil.which("chroot")
     if os.geteuid() != 0 or chroot is None or shutil.which("ldd") is None:
         return "not run in an empty root, since that needs the rights of root, chroot and ldd"

@@ -56,7 +56,7 @@ def run(words: Sequence[str | Path]) -> str:
 
 
 def code_of(body: str) -> Code:
-    """Returns what is known of a function by its disassembly with relocations."""
+    """Returns the facts about a function in its disassembly with relocations."""
     frame = 8 + 8 * len(re.findall(r"\tpush ", body))
     frame += sum(int(size, 16) for size in re.findall(r"\tsub +\$0x([0-9a-f]+),%rsp", body))
     named = re.findall(r"R_X86_64_\w+\s+(\S+?)(?:[-+]0x[0-9a-f]+)?$", body, re.M)

@@ -91,7 +91,7 @@ def run_wifi(room: Path, names: Sequence[str]) -> int:
 
 
 def main(words: Sequence[str] | None = None) -> int:
-    """Runs what is asked for, and returns the exit status."""
+    """Runs the check that the arguments name, and returns the exit status."""
     parser = SCRIPT.parser(__doc__)
     parser.add_argument("what", nargs="?", choices=[PATH, WIFI], help="one of the two")
     parser.add_argument("names", nargs="*", metavar="SCENARIO", help=f"with {WIFI}: only these")

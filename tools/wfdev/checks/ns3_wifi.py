@@ -27,7 +27,7 @@ MOST_APART = 0.10  # of ns-3's throughput
 
 @dataclass(frozen=True)
 class Row:
-    """What stations got: shares of the airtime, and Mbit/s. And the processor's seconds that the run took."""
+    """The shares of the airtime and the Mbit/s of stations, and the processor seconds of the run."""
 
     shares: list[float]
     mbit: list[float]
@@ -61,7 +61,7 @@ def words_for(scenario: Scenario, path: str) -> list[str]:
 
 
 def over_ns3(built: Path, scenario: Scenario, path: str) -> Row:
-    """What ns-3 gives the stations of a scenario."""
+    """Returns the results of the stations of a scenario over ns-3."""
     before = resource.getrusage(resource.RUSAGE_CHILDREN)
     lines = "".join(map(line, scenario.flows))
     done = subprocess.run([built, *words_for(scenario, path)], input=lines, capture_output=True, text=True, check=True)
@@ -73,7 +73,7 @@ def over_ns3(built: Path, scenario: Scenario, path: str) -> Row:
 
 
 def over_sim(scenario: Scenario, path: str, program: Program | None) -> Row:
-    """What the bench gives them."""
+    """Returns their results over the bench."""
     before = time.process_time()
     result = run_one(Job(scenario, choose(path), program, round(1e6 * scenario.seconds)))
     return Row([one.share for one in result.stations], [one.mbit for one in result.stations], time.process_time() - before)

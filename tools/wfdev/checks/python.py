@@ -108,7 +108,7 @@ def replay_example(program: Path) -> None:
 
 
 def pip_install(room: Path, sources: Path, variables: Mapping[str, str] | None = None) -> tuple[Path, Path]:
-    """Installs the package with pip into an environment of its own; returns its Python and its folder of packages."""
+    """Installs the package with pip into its own environment; returns its Python and its folder of packages."""
     venv.create(room / "place", with_pip=False, symlinks=True)
     target = next((room / "place" / "lib").glob("python*/site-packages"))
     words = [sys.executable, "-m", "pip", "install", "--quiet", "--no-index", "--no-deps"]

@@ -36,7 +36,7 @@ def of_machine(page: str, known: table_rows.Tables) -> Iterator[str]:
     if names != wanted:
         yield f"MACHINE.md: the calls are {', '.join(names)}; the table has {', '.join(wanted)}"
     words = {refusal.word for refusal in known.refusals}
-    said = {word: row[0] for row in rows for word in row[2].split(", ")}
+    said = {word: row[0] for row in rows for word in row[2].split(", ") if word}
     yield from (f"MACHINE.md: {said[word]} is refused by {word}, which is no refusal" for word in sorted(said.keys() - words))
     yield from (f"MACHINE.md: no call is refused by {word}" for word in sorted(words - said.keys() - OUTSIDE))
 

@@ -41,7 +41,7 @@ class Word:
 
 @dataclass(frozen=True)
 class Number:
-    """An answer of a word and a number: left, now, charged, flushed, held."""
+    """An answer of a word and a number: left, now, charged, flushed, held, queued, gdone."""
 
     word: str
     number: int
@@ -153,4 +153,28 @@ class Reaped:
         return f"reaped {self.frame} {self.fate}"
 
 
-Answer = Word | Number | Accepted | Send | Released | Ceased | Ba | Done | Polled | Reaped | Refused
+@dataclass(frozen=True)
+class Beacon:
+    """The answer to a beacon: its DTIM count, and whether it announces group frames."""
+
+    count: int
+    follows: bool
+
+    def __str__(self) -> str:
+        return f"beacon {self.count} {int(self.follows)}"
+
+
+@dataclass(frozen=True)
+class GroupSend:
+    """The answer to a pull of a group frame: the frame, its number, its airtime, and the More Data bit."""
+
+    frame: int
+    number: int
+    air: int
+    more: bool
+
+    def __str__(self) -> str:
+        return f"gsend {self.frame} {self.number % NUMBERS} air {self.air}" + (" more" if self.more else "")
+
+
+Answer = Word | Number | Accepted | Send | Released | Ceased | Ba | Done | Polled | Reaped | Beacon | GroupSend | Refused

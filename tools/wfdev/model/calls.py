@@ -107,5 +107,9 @@ FORMS = {
     "begin": [Form((STATION, OCTET, SHORT_NUMBER))],
     "free": [Form((STATION, OCTET))],
     "cease": [Form((STATION, OCTET))],
+    "group": [Form((LENGTH,))],
+    "beacon": [Form()],
+    "gpull": [Form()],
+    "gdone": [Form()],
 }
 LINES = {**FORMS, "end": [Form()]}

@@ -22,17 +22,22 @@ USUAL, SLOW = Parameters(20_000, 100_000), Parameters(50_000, 300_000)
 
 @dataclass
 class State:
-    """CoDel's state of a queue, by the names of the RFC."""
+    """CoDel's state of a queue, by the names of the RFC, and the number of frames that it dropped."""
 
     first_above: int = 0
     drop_next: int = 0
     count: int = 0
     last_count: int = 0
     dropping: bool = False
+    dropped: int = 0
 
     def calm(self) -> None:
         """Ends the dropping, and forgets that frames waited too long. The other numbers stay."""
         self.first_above, self.dropping = 0, False
+
+    def renewed(self) -> "State":
+        """Returns the state after the station left: a new one with the same number of drops."""
+        return State(dropped=self.dropped)
 
 
 @dataclass
@@ -87,17 +92,22 @@ class Take:
         if state.dropping:
             state.dropping = self.ok
             while state.dropping and self.now >= state.drop_next:
-                self.dropped.append(frame)
+                self.drop(frame)
                 state.count = min(state.count + 1, MOST_COUNT)
                 frame = self.look()
                 state.dropping = self.ok
                 if self.ok:
                     state.drop_next = self.control_law(state.drop_next)
         elif self.ok:
-            self.dropped.append(frame)
+            self.drop(frame)
             frame = self.look()
             self.begin_dropping()
         return frame
+
+    def drop(self, frame: Frame) -> None:
+        """Drops a frame."""
+        self.dropped.append(frame)
+        self.queue.codel.dropped = min(self.queue.codel.dropped + 1, MOST_COUNT)
 
     def begin_dropping(self) -> None:
         """Begins to drop, as fast as before if it dropped a short time ago."""

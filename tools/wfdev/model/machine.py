@@ -1,4 +1,4 @@
-"""The twenty-seven calls: MACHINE.md, from the table of calls to Power save.
+"""The thirty-one calls: MACHINE.md, from the table of calls to Group frames.
 
 The method of a call begins with its refusals in the order of the table. A refused call raises `Refused`. It
 changes nothing, except if it is `idle`.
@@ -10,8 +10,10 @@ from wfdev.model.answers import (
     Accepted,
     Answer,
     Ba,
+    Beacon,
     Ceased,
     Done,
+    GroupSend,
     Number,
     Polled,
     Reaped,
@@ -21,9 +23,10 @@ from wfdev.model.answers import (
     Word,
     refuse,
 )
-from wfdev.model.grammar import Call
 from wfdev.model.codel import SLOW, USUAL
 from wfdev.model.frames import CLASS_OF, CLASS_TIDS, NUMBERS, TIDS, Class, Fate, Frame
+from wfdev.model.grammar import Call
+from wfdev.model.group import Group
 from wfdev.model.queues import Queues
 from wfdev.model.rates import (
     Bounds,
@@ -46,6 +49,8 @@ MOST_TICK = 10_000_000
 PLAIN_WINDOW, MOST_WINDOW, MOST_EXPONENT, MOST_WEIGHT, MOST_AIR = 1, 256, 3, 16, 65_535
 AMPDUS = range(4096, 6_500_632)
 POLL_ORDER = (Class.VO, Class.VI, Class.BE, Class.BK)
+# The methods whose names are not the words of their calls.
+METHODS = {"group": "accept_group"}
 
 
 @dataclass
@@ -57,6 +62,7 @@ class Machine:
     calls: int = 0
     stations: dict[int, Station] = field(default_factory=dict)
     queues: Queues = field(init=False)
+    group: Group = field(init=False)
     rotations: dict[Class, Rotation] = field(default_factory=lambda: {one: Rotation() for one in Class})
     exchanges: dict[int, Exchange] = field(default_factory=dict)
     pulled: int = 0
@@ -67,12 +73,13 @@ class Machine:
 
     def __post_init__(self) -> None:
         self.queues = Queues(self.settings)
+        self.group = Group(self.settings)
 
     def step(self, call: Call) -> Answer:
         """Makes a call. Refused or not, it is one entry of the history."""
         self.calls += 1
         try:
-            answer: Answer = getattr(self, call.name)(*call.values)
+            answer: Answer = getattr(self, METHODS.get(call.name, call.name))(*call.values)
         except Refused as refused:
             return refused
         return answer
@@ -592,3 +599,35 @@ class Machine:
         frame = self.finished.popleft()
         self.reaped += 1
         return Reaped(frame.id, frame.fate)
+
+    # Group frames.
+
+    @property
+    def sleeps(self) -> bool:
+        """Whether a station sleeps."""
+        return any(held.asleep for held in self.stations.values())
+
+    def accept_group(self, length: int) -> Answer:
+        """A group frame comes."""
+        queued = len(self.group.queued)
+        refuse("buffered", queued >= self.settings.buffered, queued)
+        return Number("queued", self.group.accept(length))
+
+    def beacon(self) -> Answer:
+        """A beacon goes out."""
+        self.group.beacon()
+        return Beacon(self.group.count, self.group.announced)
+
+    def gpull(self) -> Answer:
+        """The driver asks for the next group frame."""
+        refuse("flying", self.group.flying is not None)
+        refuse("idle", not self.group.may_go(self.sleeps))
+        frame = self.group.pull()
+        assert frame.number is not None
+        more = self.sleeps and self.group.may_go(self.sleeps)
+        return GroupSend(frame.id, frame.number, self.group.time(frame), more)
+
+    def gdone(self) -> Answer:
+        """The transmission of the group frame on the air ended."""
+        refuse("nothing", self.group.flying is None)
+        return Number("gdone", self.group.done())

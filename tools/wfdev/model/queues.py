@@ -2,7 +2,7 @@
 from collections import defaultdict
 from dataclasses import dataclass, field
 
-from wfdev.model.codel import Parameters, Queue, State, Take
+from wfdev.model.codel import Parameters, Queue, Take
 from wfdev.model.frames import TIDS, Frame
 from wfdev.model.rotation import Rotation
 from wfdev.model.settings import Settings
@@ -82,7 +82,7 @@ class Queues:
         """Empties, resets and delists the queues that a TID lists. Returns their frames in order."""
         frames = self.flush(owner)
         for number in self.rotations[owner].keys():
-            self.queues[number].codel = State()
+            self.queues[number].codel = self.queues[number].codel.renewed()
             del self.owners[number]
         del self.rotations[owner]
         return frames

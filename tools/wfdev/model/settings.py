@@ -38,6 +38,8 @@ class Settings:
     answers: int = setting(0, 0, 1)
     credits: int = setting(0, 0, 1)
     legacy: int = setting(0, 0, 2)
+    period: int = setting(0, 0, 255)
+    buffered: int = setting(0, 0, 65_535)
     # end settings
 
 

@@ -51,7 +51,10 @@ def summary(machine: Machine) -> Iterator[str]:
     yield f"exchanges {machine.pulled} open {len(machine.exchanges)}"
     for _, held in sorted(machine.stations.items()):
         yield from station_lines(machine, held)
-    yield f"tim {tim(machine.announced()).hex()}"
+    group = machine.group
+    if machine.settings.buffered:
+        yield f"group {group.accepted} sent {group.sent} held {group.held} air {group.air}"
+    yield f"tim {tim(machine.announced(), group.count, group.period, group.announced).hex()}"
 
 
 @dataclass
@@ -111,6 +114,19 @@ def replay(octets: bytes) -> tuple[str, int]:
     written.append(player.finish())
     assert player.status is not None
     return "".join(written), player.status
+
+
+def beacons(octets: bytes) -> list[list[int]]:
+    """Returns the AIDs in the TIM of each beacon of a trace, rising, which its answers do not have."""
+    player = Player()
+    found: list[list[int]] = []
+    for line in grammar.lines_of(octets):
+        written = player.play(line)
+        if player.status is not None:
+            break
+        if written.startswith("beacon ") and player.machine is not None:
+            found.append(sorted(player.machine.announced()))
+    return found
 
 
 def batches(octets: bytes) -> dict[int, list[int]]:

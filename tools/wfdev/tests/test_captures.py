@@ -56,6 +56,23 @@ class Listing(unittest.TestCase):
         self.assertEqual(readers.numbers_of(ack.octets), [None] * 5)
         self.assertEqual(readers.numbers_of(model.REQUEST), [None, None, 5, 4095, 0])
 
+    def test_a_beacon_and_a_group_frame(self) -> None:
+        trace = "cell stations=30 period=2 buffered=2\njoin 20 64 0 3\nsleep 20\nenq 20 0 0 9\ngroup 2\nbeacon\ntick 7\nbeacon\ngpull\nend\n"
+        answers = "joined\nslept\naccepted 0\nqueued 0\nbeacon 1 0\nnow 7\nbeacon 0 1\ngsend 0 2 air 64\n"
+        first, second, group = air.on_air(trace, answers)
+        self.assertEqual(model.name_of(first.octets), "beacon seq 0 count 1 period 2 group 0")
+        self.assertEqual(model.name_of(second.octets), "beacon seq 1 count 0 period 2 group 1")
+        self.assertEqual(second.beacon, model.Beacon(0, 2, 1, [21]))
+        self.assertEqual((second.octets[24:32], second.octets[48:]), (b"\7" + bytes(7), b"\5\4\0\2\3\x20"))
+        self.assertEqual(model.name_of(group.octets), "group seq 2")
+        self.assertEqual((group.octets[:4], group.octets[-2:]), (b"\x08\2\0\0", b"\0\1"))
+        self.assertEqual(readers.numbers_of(group.octets), [None, 2, None, None, None])
+
+    def test_a_beacon_without_a_whole_tim_is_another_frame(self) -> None:
+        whole = air.beacon(0, 0, model.Beacon(0, 1, 0, []))
+        for octets in (whole[:-1], whole[:48], whole[:30], bytes([0x80])):
+            self.assertEqual(model.name_of(octets), "other")
+
 
 if __name__ == "__main__":
     unittest.main()

@@ -1,18 +1,25 @@
 """Tests of wfdev.model on the worked rows, on the traces of examples, and on the rows of durations."""
 import csv
+import itertools
+import random
 import unittest
 from collections.abc import Callable
 
 from wfdev.checks import worked
 from wfdev.checks.durations import legacy
-from wfdev.checks.fuzz import scripts, subjects
+from wfdev.checks.fuzz import scripts, subjects, traces
 from wfdev.checks.fuzz.subjects import Ended
+from wfdev.model.answers import Answer, Beacon, GroupSend, Number, Refused
+from wfdev.model.calls import LINES
 from wfdev.model.frames import Frame
+from wfdev.model.grammar import read
+from wfdev.model.group import Group
+from wfdev.model.machine import Machine
 from wfdev.model.rates import LOWEST, Bounds, Format, MimoRate, Ofdm, octets_alone
 from wfdev.model.session import End, Session
 from wfdev.model.settings import RANGES, Settings
 from wfdev.model.stations import Mode, Station
-from wfdev.model.text import replay
+from wfdev.model.text import Player, replay
 from wfdev.model.tim import tim
 from wfdev.repo import paths
 
@@ -24,6 +31,7 @@ COMMANDS: dict[tuple[str, ...], Callable[[bytes], Ended]] = {
     ("uplink",): scripts.uplink,
 }
 LEAST_ROWS = 200
+GROUP_CALLS = ("group 9", "beacon", "gpull", "gdone")
 MOST_HT_MCS = 15
 
 
@@ -87,6 +95,82 @@ class Agreements(unittest.TestCase):
     def test_the_octets_of_a_frame_alone(self) -> None:
         rates = (LOWEST, MimoRate(Format.VHT, 0, 20, 800, 1), MimoRate(Format.HE, 0, 20, 800, 1))
         self.assertEqual([octets_alone(rate, 100, 8) for rate in rates], [138, 142, 142])
+
+
+class Grouped(unittest.TestCase):
+    def test_the_count_runs_from_the_period(self) -> None:
+        group = Group(Settings(period=3, buffered=1))
+        counts: list[int] = []
+        for _ in range(4):
+            group.beacon()
+            counts.append(group.count)
+        self.assertEqual(counts, [2, 1, 0, 2])
+        self.assertEqual(Group(Settings()).period, 1)
+
+    def test_airtimes(self) -> None:
+        for overhead, length, air in ((0, 1, 64), (0, 2304, 3136), (32, 1, 108), (32, 2304, 3176)):
+            group = Group(Settings(overhead=overhead, buffered=1))
+            group.accept(length)
+            self.assertEqual(group.time(group.pull()), air)
+
+    def test_the_bit_is_in_the_control_octet(self) -> None:
+        self.assertEqual(tim([], 0, 2, True).hex(), "050400020100")
+        self.assertEqual(tim([21], 0, 2, True).hex(), "050400020320")
+        self.assertEqual(tim([21], 1, 2).hex(), "050401020220")
+
+    def test_the_laws_hold_in_random_histories(self) -> None:
+        for seed in range(20):
+            self.keep_laws(random.Random(seed), 300)
+
+    def keep_laws(self, draw: random.Random, calls: int) -> None:
+        """Makes random calls, and asserts the laws of group frames after each."""
+        settings = Settings(stations=3, period=draw.choice((0, 1, 2, 3)), buffered=draw.choice((1, 2, 8)))
+        machine, answers = Machine(settings), list[Answer]()
+        usual = ["group 100", "beacon", "gpull", "gdone"] * 4
+        for _ in range(calls):
+            other = draw.choice(("sleep", "wake", "sleep", "wake", "leave", "join"))
+            line = draw.choice([*usual, f"{other} {draw.randrange(3)}{' 64 0 3' if other == 'join' else ''}"])
+            slept = machine.sleeps
+            answer = machine.step(read(line.split(), LINES))
+            self.keep_counts(machine, answers := [*answers, answer])
+            if isinstance(answer, Beacon):
+                self.assertEqual(answer.follows, machine.group.may_go(True))
+            if isinstance(answer, GroupSend):
+                self.assertEqual(answer.more, slept and machine.group.may_go(True))
+                if slept:
+                    self.keep_dtim(answers, answer)
+
+    def keep_counts(self, machine: Machine, answers: list[Answer]) -> None:
+        """Asserts that the counts add up, and that frames go in order, with rising numbers."""
+        group = machine.group
+        self.assertEqual(group.accepted, group.sent + group.held)
+        self.assertLessEqual(len(group.queued), machine.settings.buffered)
+        sends = [one for one in answers if isinstance(one, GroupSend)]
+        self.assertEqual([one.frame for one in sends], list(range(len(sends))))
+        numbered = [one for one in answers if isinstance(one, Beacon | GroupSend)]
+        told = [(at, one.number) for at, one in enumerate(numbered) if isinstance(one, GroupSend)]
+        self.assertTrue(all(at == number for at, number in told))
+
+    def keep_dtim(self, answers: list[Answer], sent: GroupSend) -> None:
+        """Asserts that the latest beacon announced the group frame, and that the frame came before it."""
+        beacons = [at for at, one in enumerate(answers) if isinstance(one, Beacon)]
+        beacon = answers[beacons[-1]]
+        self.assertEqual(beacon, Beacon(0, follows=True))
+        self.assertLess(answers.index(Number("queued", sent.frame)), beacons[-1])
+
+    def test_calls_about_group_frames_leave_the_answers_of_all_others(self) -> None:
+        for seed in range(5):
+            draw = random.Random(seed)
+            head, *lines = traces.made(draw, 150).decode().splitlines()
+            others = [line for line in lines[:-1] if not {"group", "beacon", "gpull", "gdone"} & set(line.split()[:2])]
+            mixed = list(itertools.chain.from_iterable((line, draw.choice(GROUP_CALLS)) for line in others))
+            self.assertEqual(self.played(head, others), self.played(head, mixed)[::2])
+
+    def played(self, head: str, lines: list[str]) -> list[str]:
+        """Returns the answers to the lines of a trace."""
+        player = Player()
+        player.play(head.encode())
+        return [player.play(line.encode()) for line in lines]
 
 
 class Settled(unittest.TestCase):

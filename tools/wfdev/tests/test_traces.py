@@ -120,8 +120,8 @@ def replies_of(kind: str) -> set[str]:
     """Returns the kinds of the answers to a kind of call."""
     names = "join leave rate tick enq pull arrive done sleep wake poll rx reap unsent giveup flush offload weight".split()
     answers = "joined left set now accepted send released done slept woken polled charged reaped".split()
-    names += "plain hold begin free cease".split()
-    answers += "marked marked flushed joined set joined held begun freed ceased".split()
+    names += "plain hold begin free cease group beacon gpull gdone".split()
+    answers += "marked marked flushed joined set joined held begun freed ceased queued beacon gsend gdone".split()
     known = dict(zip(names, answers, strict=True))
     return {"ba", "ack"} if kind == "answer" else {known[kind]}
 
@@ -148,6 +148,7 @@ class Fields(unittest.TestCase):
         texts += ["send 0 sta 1 tid 2 air 3 plain 4:5 more", "ack", "held 4095", "begun", "freed", "ceased 2", "ceased 2 7 9"]
         texts += ["reaped 3 ended", "refused held", "refused waits 1"]
         texts += ["refused open 2", "refused debt -7", "refused ahead 3952", "refused idle"]
+        texts += ["queued 0", "beacon 2 0", "beacon 0 1", "gsend 0 4095 air 464 more", "gdone 0", "refused buffered 9"]
         nested = {"frames": "wf_frames", "passed_up": "wf_passed_up", "block": "wf_block"}
         for text in texts:
             reply = replies.read(text)
@@ -182,6 +183,7 @@ class Fields(unittest.TestCase):
         texts += ["done 0 heard", "done 0 lost air 90", "sleep 1", "wake 1", "poll 1", "rx 1 vo 9", "reap"]
         texts += ["unsent 0 1", "giveup 0 1", "flush 1 0", "offload 1 3", "offload 1 3 2", "weight 1 2"]
         texts += ["plain 1 0 3", "plain 1 0 3 2", "hold 1 0", "begin 1 0 64", "free 1 0", "cease 1 0"]
+        texts += ["group 300", "beacon", "gpull", "gdone"]
         for text in texts:
             self.assertLessEqual(set(calls.read(text).fields), self.struct("wf_call"), text)
         self.assertEqual(calls.read("join 1 64 0 3").fields["weight"], 1)
@@ -198,11 +200,9 @@ class Fields(unittest.TestCase):
             texts = [event.text for event in events(name) if isinstance(event, runs.Summed)]
             found = replies.read_summary(texts)
             if name != "fault":
-                self.assertEqual(
-                    set(found),
-                    {"kind", "shares", "calls", "now", "tally", "held", "exchanges", "open", "tim"},
-                    name,
-                )
+                wanted = {"kind", "shares", "calls", "now", "tally", "held", "exchanges", "open", "tim"}
+                self.assertEqual(set(found) - {"group"}, wanted, name)
+                self.assertEqual("group" in found, name == "multicast", name)
                 self.assertEqual(set(found["tally"]), self.struct("wf_tally"))
                 for share in found["shares"]:
                     self.assertEqual(set(share) - {"station", "class_"}, self.struct("wf_share"))

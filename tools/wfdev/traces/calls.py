@@ -33,6 +33,10 @@ FORMS: dict[str, tuple[str, ...]] = {
     "begin": ("station", "tid", "window"),
     "free": ("station", "tid"),
     "cease": ("station", "tid"),
+    "group": ("length",),
+    "beacon": (),
+    "gpull": (),
+    "gdone": (),
 }
 RATES: dict[str, tuple[str, ...]] = {
     "ht": ("station", "mcs", "mhz", "short_guard"),

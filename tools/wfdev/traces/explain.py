@@ -187,6 +187,10 @@ ASKED: dict[str, Callable[[Call], str]] = {
     ),
     "free": lambda call: f"The frames of {tid_of(call)}, are to go one at a time from now on.",
     "cease": lambda call: f"The agreement of {tid_of(call)}, ends.",
+    "group": lambda call: f"A frame of {call.number('length')} octets comes for a group of stations.",
+    "beacon": lambda _: "A beacon goes out.",
+    "gpull": lambda _: "The driver asks for the next group frame.",
+    "gdone": lambda _: "The transmission of the group frame on the air has ended.",
 }
 
 
@@ -195,13 +199,17 @@ NOTHING = {
     "answer": "No transmission of the exchange has arrived.",
     "poll": "No TID of the station can send.",
     "reap": "No frame is finished.",
+    "gdone": "No group frame is on the air.",
 }
+NO_GROUP_FRAME = "No group frame is queued, or a station sleeps and no DTIM beacon since the first one came lets it go."
 AFTER_IDLE = "This is the only refusal after which something may have changed."
 
 
 def refused(call: Call, reply: Reply, book: Ledger) -> str:
     """Returns why a call was refused."""
     number = reply.fields.get("count", reply.fields.get("deficit"))
+    if reply.refusal == "idle" and call.kind == "gpull":
+        return f"Refused: {NO_GROUP_FRAME} Nothing has changed."
     if reply.refusal == "idle":
         class_ = call.word("class_")
         known = [said for one in book.stations.values() if (said := why_not_ready(one, class_, book))]
@@ -435,6 +443,23 @@ def said_of_ceased(_: Call, reply: Reply, __: Ledger, ___: Exchange | None) -> s
     return " ".join(filter(None, [dropped, passed_up(reply), held]))
 
 
+def said_of_beacon(_: Call, reply: Reply, __: Ledger, ___: Exchange | None) -> str:
+    """Says what sleeping stations learn from a beacon."""
+    if reply.number("count"):
+        return f"Its DTIM count is {reply.number('count')}, so group frames wait while a station sleeps."
+    after = "the group frames that are queued now may go" if reply.fields["more"] else "no group frame is queued"
+    return f"It is a DTIM beacon, and {after}."
+
+
+def said_of_gsend(_: Call, reply: Reply, __: Ledger, ___: Exchange | None) -> str:
+    """Says which group frame goes."""
+    more = " Another one follows." if reply.fields["more"] else ""
+    return (
+        f"Group frame {reply.number('id')} has the number {reply.number('start')} and takes "
+        f"{reply.number('air')} us of air, which are charged to no station.{more}"
+    )
+
+
 def said_of_charged(call: Call, reply: Reply, _: Ledger, __: Exchange | None) -> str:
     """Says what a charge leaves."""
     return f"Its deficit of class {call.word('class_')} is {reply.number('deficit')} us now."
@@ -484,6 +509,10 @@ ANSWERED: dict[str, Callable[[Call, Reply, Ledger, Exchange | None], str]] = {
     "begin": lambda *_: "It has begun: the frames of the TID go in aggregates.",
     "free": lambda *_: "It is free: each frame waits for the Ack of the one before it.",
     "cease": said_of_ceased,
+    "group": lambda _, reply, __, ___: f"It is queued as group frame {reply.number('id')}.",
+    "beacon": said_of_beacon,
+    "gpull": said_of_gsend,
+    "gdone": lambda _, reply, __, ___: f"Group frame {reply.number('id')} was sent.",
 }
 
 

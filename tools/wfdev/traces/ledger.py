@@ -23,6 +23,7 @@ STANDARD = {
     "calls": 1048576,
     "charge": 0,
     "pending": 0,
+    "buffered": 0,
 }
 CLASSES = ("be", "bk", "bk", "be", "vi", "vi", "vo", "vo")
 NUMBERS = 4096

@@ -11,7 +11,7 @@ from collections.abc import Callable
 from typing import Any
 
 Fields = dict[str, Any]
-COUNTED = ("open", "room", "sleeping", "full", "waits")
+COUNTED = ("open", "room", "sleeping", "full", "waits", "buffered")
 MEASURED = {"debt": "deficit", "ahead": "air"}
 DIGITS = 16
 WIDE_DIGITS = 64
@@ -71,6 +71,10 @@ def _ba(words: list[str]) -> Fields:
     return {"block": {"bits": parts[::-1], "start": int(words[0]), "wide": len(words[1]) == WIDE_DIGITS}}
 
 
+def _gsend(words: list[str]) -> Fields:
+    return {"id": int(words[0]), "start": int(words[1]), "air": int(words[3]), "more": words[-1] == "more"}
+
+
 def _refused(words: list[str]) -> Fields:
     fields: Fields = {"refusal": words[0]}
     if len(words) > 1:
@@ -92,6 +96,10 @@ READERS: dict[str, Callable[[list[str]], Fields]] = {
     "polled": lambda words: {"class_": words[0]},
     "charged": lambda words: {"deficit": int(words[0])},
     "reaped": lambda words: {"id": int(words[0]), "fate": words[1]},
+    "queued": lambda words: {"id": int(words[0])},
+    "beacon": lambda words: {"count": int(words[0]), "more": words[1] == "1"},
+    "gsend": _gsend,
+    "gdone": lambda words: {"id": int(words[0])},
     "refused": _refused,
 }
 
@@ -122,6 +130,8 @@ def read_summary(texts: list[str]) -> Fields:
             found.update(exchanges=int(words[0]), open=int(words[2]))
         elif word == "sta":
             found["shares"].append(read_share(words))
+        elif word == "group":
+            found["group"] = {"accepted": int(words[0]), **dict(zip(words[1::2], map(int, words[2::2])))}
         elif word == "tim":
             found["tim"] = words[0]
     return found

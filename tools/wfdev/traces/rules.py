@@ -10,7 +10,7 @@ ROW = re.compile(r"^\| `([a-z-]+)` \| \d+ \| (.*) \|$", re.M)
 NUMBERS = ("count", "inside", "queued", "deficit", "owed")
 # Sentences about one thing, where the table speaks of several.
 ONE = {"1 open exchanges.": "1 open exchange.", "1 exchanges of the class are": "1 exchange of the class is"}
-ONE |= {"1 frames are": "1 frame is", "1 frames of the class are": "1 frame of the class is"}
+ONE |= {"1 group frames are": "1 group frame is", "1 frames are": "1 frame is", "1 frames of the class are": "1 frame of the class is"}
 ONE |= {"1 sequence numbers of the TID wait": "1 sequence number of the TID waits"}
 
 

@@ -7,7 +7,8 @@ text2pcap, editcap or scapy is installed, captures that these wrote. No capture 
 Written are: captures of the example traces and of 1,000 generated ones of a few calls each, octet by octet by the answers that
 `wf replay` gives. If tshark or scapy is installed, it reads those of the example traces, and those of the generated ones in one
 file: times, kinds, Retry and More Data bits, TIDs, sequence numbers, starts, fragment numbers and bitmaps have to be equal to
-the model's, and tshark finds no malformed field and reports no error. There are some 4,000 runs.
+the model's, and of beacons the DTIM counts, periods, bits and AIDs. tshark finds no malformed field and reports no error. There
+are some 4,000 runs.
 
 Converted are captures as devices give them, if tshark is installed: with radiotap fields, with and without frame check
 sequences (scapy), of the format pcapng, also with two link types (editcap, mergecap), and of A-MPDUs (ns-3). `./wf convert`

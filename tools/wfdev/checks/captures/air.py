@@ -3,10 +3,13 @@ import random
 from collections.abc import Iterator, Sequence
 from dataclasses import dataclass, field
 
-from wfdev.checks.captures.model import ACK_KIND, BLOCK_ACK_KIND, DATA_KIND, REQUEST_KIND, Packet
+from wfdev.checks.captures.model import ACK_KIND, BEACON_KIND, BLOCK_ACK_KIND, DATA_KIND, GROUP_KIND, REQUEST_KIND, Beacon, Packet
 from wfdev.model import text
+from wfdev.model.tim import tim
 
-BASE, SOURCE = bytes.fromhex("020000000000"), bytes.fromhex("020000020000")
+BASE, SOURCE, EVERYONE = (bytes.fromhex(one) for one in ("020000000000", "020000020000", "ffffffffffff"))
+# The fields of a beacon between its Timestamp and its TIM: the interval, ESS, no SSID, and the rates of 6 to 54 Mbit/s.
+BEACON_FIELDS = bytes.fromhex("6400" "0100" "0000" "01088c129824b048606c")
 MICROSECONDS = 10**6
 DURATION, PLAIN_DURATION = 48, 44  # of the SIFS, and a BlockAck or an Ack
 
@@ -60,6 +63,24 @@ def ack() -> bytes:
     return bytes([ACK_KIND, 0, 0, 0]) + BASE
 
 
+def beacon(number: int, clock: int, said: Beacon) -> bytes:
+    """Returns the octets of a beacon."""
+    head = bytes([BEACON_KIND, 0, 0, 0]) + EVERYONE + BASE + BASE + (16 * (number % 4096)).to_bytes(2, "little")
+    return head + clock.to_bytes(8, "little") + BEACON_FIELDS + tim(said.aids, said.count, said.period, said.group == 1)
+
+
+def group(seq: int, has_more: bool, length: int) -> bytes:
+    """Returns the octets of a group frame."""
+    head = bytes([GROUP_KIND, 2 | 32 * has_more, 0, 0]) + EVERYONE + BASE + SOURCE + (16 * seq).to_bytes(2, "little")
+    return head + bytes(at % 256 for at in range(length))
+
+
+def period_of(trace: str) -> int:
+    """Returns the DTIM period of a trace."""
+    words = [word for line in trace.splitlines() if line.split()[:1] == ["cell"] for word in line.split()]
+    return next((max(1, int(word.removeprefix("period="))) for word in words if word.startswith("period=")), 1)
+
+
 def calls_of(trace: str) -> list[list[str]]:
     """Returns the words of each call, without its caller."""
     lines = [line.split() for line in trace.splitlines() if line.strip() and not line.lstrip().startswith("#")]
@@ -79,20 +100,31 @@ class Exchange:
 @dataclass
 class Air:
     """The run of a trace: the clock, the accepted frames, the open exchanges, those frames that were sent in an exchange
-    that ended, and the packets so far. `batches` has the numbers of each batch.
+    that ended, the lengths of group frames, the sequence numbers that these and beacons took, and the packets so far.
+    `batches` has the numbers of each batch, `aids` the AIDs of each beacon, and `period` the DTIM period.
     """
 
     batches: dict[int, list[int]] = field(default_factory=dict)
+    aids: list[list[int]] = field(default_factory=list)
+    period: int = 1
 
     clock: int = 0
     frames: dict[str, Frame] = field(default_factory=dict)
     opened: dict[str, Exchange] = field(default_factory=dict)
     tried: set[str] = field(default_factory=set)
+    groups: dict[str, int] = field(default_factory=dict)
+    numbers: int = 0
     packets: list[Packet] = field(default_factory=list)
 
-    def put(self, octets: bytes) -> None:
+    def put(self, octets: bytes, said: Beacon | None = None) -> None:
         """Adds a packet at the time of the clock."""
-        self.packets.append(Packet(self.clock // MICROSECONDS, self.clock % MICROSECONDS, octets, missing=0))
+        self.packets.append(Packet(self.clock // MICROSECONDS, self.clock % MICROSECONDS, octets, missing=0, beacon=said))
+
+    def send_beacon(self, count: int, bit: int) -> None:
+        """Adds the beacon of an answer."""
+        said = Beacon(count, self.period, bit, self.aids.pop(0))
+        self.put(beacon(self.numbers, self.clock, said), said)
+        self.numbers += 1
 
     def send(self, answer: Sequence[str]) -> None:
         """Adds the packets of an answer `send`."""
@@ -117,6 +149,13 @@ class Air:
             self.frames[answer[1]] = Frame(int(call[3]), int(call[4]))
         elif answer[0] == "send":
             self.send(answer)
+        elif answer[0] == "queued":
+            self.groups[answer[1]] = int(call[1])
+        elif answer[0] == "beacon":
+            self.send_beacon(int(answer[1]), int(answer[2]))
+        elif answer[0] == "gsend":
+            self.put(group(self.numbers % 4096, answer[-1] == "more", self.groups[answer[1]]))
+            self.numbers += 1
         elif answer[0] == "ba":
             opened = self.opened[call[1]]
             self.put(block_ack(opened.station, opened.tid, int(answer[1]), answer[2]))
@@ -131,7 +170,12 @@ class Air:
 
 def on_air(trace: str, answers: str) -> list[Packet]:
     """Returns the packets that go on the air."""
-    air = Air(batches=text.batches(trace.encode("latin-1")) if " batch " in answers else {})
+    octets = trace.encode("latin-1")
+    air = Air(
+        batches=text.batches(octets) if " batch " in answers else {},
+        aids=text.beacons(octets) if "beacon " in answers else [],
+        period=period_of(trace),
+    )
     # (the answers end before the calls do after a fault, and go on with the summary)
     for call, answer in zip(calls_of(trace), map(str.split, answers.splitlines()), strict=False):
         air.take(call, answer)
@@ -145,6 +189,11 @@ def agreement(draw: random.Random) -> str:
     return draw.choice((f"hold {station} 0", f"begin {station} 0 {window}", f"free {station} 0", f"cease {station} 0"))
 
 
+def group_call(draw: random.Random) -> str:
+    """Returns a call about group frames."""
+    return draw.choice((f"group {draw.randint(1, 300)}", f"group {draw.randint(1, 300)}", "beacon", "gpull", "gpull", "gdone"))
+
+
 def exchanges(draw: random.Random, count: int) -> Iterator[str]:
     """Yields the calls of this many exchanges, which go out, arrive in part, are answered and end."""
     for exchange in range(count):
@@ -153,6 +202,7 @@ def exchanges(draw: random.Random, count: int) -> Iterator[str]:
         yield draw.choice(("tick 7", "tick 999999", f"sleep {draw.randint(0, 2)}", f"wake {draw.randint(0, 2)}", "reap"))
         if draw.random() < 0.3:
             yield agreement(draw)
+        yield from [group_call(draw) for _ in range(draw.choice((0, 0, 6)))]
         yield draw.choice(("pull be", "pull be", "pull vi"))
         for number in range(max(0, exchange - 1), exchange + 1):
             yield from [f"arrive {number} {index}" for index in range(4) if draw.random() < 0.6]
@@ -163,7 +213,8 @@ def exchanges(draw: random.Random, count: int) -> Iterator[str]:
 def made_trace(seed: int) -> str:
     """Returns a generated trace of a few calls: stations join, frames come, and exchanges take place."""
     draw = random.Random(seed)
-    lines = [f"cell attempts={draw.randint(1, 3)} agg={draw.choice((1, 4, 64))}"]
+    groups = f" period={draw.choice((0, 1, 2, 5))} buffered={draw.choice((1, 9))}" if draw.random() < 0.5 else ""
+    lines = [f"cell attempts={draw.randint(1, 3)} agg={draw.choice((1, 4, 64))}{groups}"]
     for number in range(draw.randint(1, 3)):
         start, window = draw.randint(0, 4095), draw.choice((1, 2, 8, 64, 65, 256))
         is_plain = draw.random() < 0.3

@@ -14,9 +14,10 @@ from wfdev.repo import paths
 NS3 = ["applications", "internet", "wifi", "mobility", "network", "core"]
 FIELDS = (
     "frame.time_epoch frame.cap_len radiotap.length radiotap.flags.fcs wlan.fc.type_subtype wlan.seq wlan.frag wlan.qos.tid"
-    " wlan.qos.amsdupresent wlan.fixed.ssc.sequence wlan.ba.basic.tidinfo"
+    " wlan.qos.amsdupresent wlan.fixed.ssc.sequence wlan.ba.basic.tidinfo wlan.tim.dtim_count wlan.tim.dtim_period"
+    " wlan.tim.bmapctl.multicast wlan.ra"
 ).split()
-DATA, REQUEST, BLOCK_ACK = 0x28, 0x18, 0x19
+DATA, REQUEST, BLOCK_ACK, GROUP, BEACON = 0x28, 0x18, 0x19, 0x20, 0x08
 FCS_OCTETS = 4
 NANOSECONDS = 10**9
 WORDS = {"": 0, "True": 1, "False": 0}
@@ -80,13 +81,17 @@ def listed_by_tshark(path: Path) -> Iterator[str]:
     words += [word for name in FIELDS for word in ("-e", name)]
     for line in subprocess.run(words, capture_output=True, check=True, text=True).stdout.splitlines():
         time, *rest = line.split(";")
-        length, tap, fcs, kind, seq, fragment, tid, has_more_frames, start, tid_info = (number(field) for field in rest)
+        length, tap, fcs, kind, seq, fragment, tid, has_more_frames, start, tid_info, count, period, bit = map(number, rest[:-1])
         size = length - tap - FCS_OCTETS * fcs
         name = "other"
         if kind == DATA and not fragment and not has_more_frames:
             name = f"data tid {tid} seq {seq}"
         elif kind in (REQUEST, BLOCK_ACK):
             name = f"{'bar' if kind == REQUEST else 'ba'} tid {tid_info & 15} start {start}"
+        elif kind == BEACON and rest[-4]:
+            name = f"beacon seq {seq} count {count} period {period} group {bit}"
+        elif kind == GROUP and int(rest[-1][:2], 16) & 1:
+            name = f"group seq {seq}"
         seconds, fraction = time.split(".")
         yield f"{int(seconds) * NANOSECONDS + int(fraction.ljust(9, '0'))} len {size} {name}"
 

@@ -7,7 +7,8 @@ MOST, LONGEST = 2**40, 262_144  # octets of an input, and of a packet
 FILE_HEADER, PACKET_HEADER = 24, 16
 MICROSECONDS, NANOSECONDS = 0xA1B2C3D4, 0xA1B23C4D
 VERSION, LINK_TYPE = (2, 4), 105
-DATA_KIND, REQUEST_KIND, BLOCK_ACK_KIND, ACK_KIND = 0x88, 0x84, 0x94, 0xD4
+DATA_KIND, REQUEST_KIND, BLOCK_ACK_KIND, ACK_KIND, GROUP_KIND, BEACON_KIND = 0x88, 0x84, 0x94, 0xD4, 0x08, 0x80
+HEADER_OCTETS, ELEMENTS_AT, TIM_NUMBER = 24, 36, 5  # of a frame without QoS, and of a beacon
 REQUEST_OCTETS, NARROW_OCTETS, WIDE_OCTETS = 20, 28, 52
 
 ADDRESSES = bytes.fromhex("020000000000" "020000010000")
@@ -19,13 +20,25 @@ ACK = bytes.fromhex("d4000000") + ADDRESSES[:6]
 
 
 @dataclass(frozen=True)
+class Beacon:
+    """A beacon of a trace: the DTIM count and period, the bit for group frames, and the AIDs of its TIM, rising."""
+
+    count: int
+    period: int
+    group: int
+    aids: list[int]
+
+
+@dataclass(frozen=True)
 class Packet:
-    """A packet: its time, in two parts, and its octets. `missing` octets of it were on the air and not captured."""
+    """A packet: its time, in two parts, and its octets. `missing` octets of it were on the air and not captured. A beacon of a
+    trace has what it says."""
 
     seconds: int
     fraction: int
     octets: bytes
     missing: int = 4
+    beacon: Beacon | None = None
 
     def packed(self, order: str) -> bytes:
         """Returns the packet as a capture has it."""
@@ -71,6 +84,30 @@ def block_name(octets: bytes) -> str | None:
     return "bar" if kind == REQUEST_KIND else "ba"
 
 
+def tim_among(elements: bytes) -> bytes | None:
+    """Returns the body of the first TIM element of a beacon, if there is one, it is complete, and so are those before it."""
+    while len(elements) >= 2:
+        number, length, body = elements[0], elements[1], elements[2 : 2 + elements[1]]
+        if len(body) < length:
+            return None
+        if number == TIM_NUMBER:
+            return body if length >= 4 else None
+        elements = elements[2 + length :]
+    return None
+
+
+def name_without_qos(octets: bytes) -> str:
+    """Returns how the list names a beacon, a group frame or another packet."""
+    if len(octets) >= HEADER_OCTETS:
+        seq = int.from_bytes(octets[22:24], "little") >> 4
+        tim = tim_among(octets[ELEMENTS_AT:]) if octets[0] == BEACON_KIND else None
+        if tim is not None:
+            return f"beacon seq {seq} count {tim[0]} period {tim[1]} group {tim[2] & 1}"
+        if octets[0] == GROUP_KIND and octets[4] & 1:
+            return f"group seq {seq}"
+    return "other"
+
+
 def name_of(octets: bytes) -> str:
     """Returns how the list names a packet's octets."""
     if is_data(octets):
@@ -78,7 +115,7 @@ def name_of(octets: bytes) -> str:
     name = block_name(octets)
     if name:
         return f"{name} tid {octets[17] >> 4} start {int.from_bytes(octets[18:20], 'little') >> 4}"
-    return "other"
+    return name_without_qos(octets)
 
 
 def order_of(octets: bytes) -> str | None:

@@ -8,14 +8,30 @@ from dataclasses import dataclass
 from pathlib import Path
 
 from wfdev.checks.captures.air import MICROSECONDS
-from wfdev.checks.captures.model import ACK, ACK_KIND, BLOCK_ACK_KIND, DATA_KIND, REQUEST, REQUEST_KIND, Packet, name_of
+from wfdev.checks.captures.model import (
+    ACK,
+    ACK_KIND,
+    BEACON_KIND,
+    BLOCK_ACK_KIND,
+    DATA_KIND,
+    GROUP_KIND,
+    REQUEST,
+    REQUEST_KIND,
+    Beacon,
+    Packet,
+    name_of,
+)
 from wfdev.harness.script import Difference, expect
 
-# The time and the fields of every frame, of data frames, of block frames and of BlockAcks, and tshark's complaints.
+# The time and the fields of every frame, of data frames, of block frames, of BlockAcks, of beacons and of group frames, and tshark's
+# complaints.
 HEAD_FIELDS = "frame.time_epoch wlan.fc.type_subtype wlan.fc.retry wlan.fc.moredata _ws.malformed _ws.expert.severity"
-FIELDS = (HEAD_FIELDS + " wlan.qos.tid wlan.seq wlan.ba.basic.tidinfo wlan.fixed.ssc.sequence wlan.fixed.ssc.fragment wlan.ba.bm").split()
+TIM_FIELDS = "wlan.tim.dtim_count wlan.tim.dtim_period wlan.tim.bmapctl.multicast wlan.tim.bmapctl.offset wlan.tim.partial_virtual_bitmap"
+NUMBER_FIELDS = "wlan.qos.tid wlan.seq wlan.ba.basic.tidinfo wlan.fixed.ssc.sequence wlan.fixed.ssc.fragment"
+FIELDS = f"{HEAD_FIELDS} {NUMBER_FIELDS} wlan.ba.bm {TIM_FIELDS} wlan.da".split()
 ERROR = 0x800000
-KINDS = {DATA_KIND: 0x28, REQUEST_KIND: 0x18, BLOCK_ACK_KIND: 0x19, ACK_KIND: 0x1D}
+KINDS = {DATA_KIND: 0x28, REQUEST_KIND: 0x18, BLOCK_ACK_KIND: 0x19, ACK_KIND: 0x1D, GROUP_KIND: 0x20, BEACON_KIND: 0x08}
+EVERYONE = "ff:ff:ff:ff:ff:ff"
 WORDS = {"": None, "True": 1, "False": 0}
 
 
@@ -40,17 +56,33 @@ def number_in(text: str) -> int | None:
 
 
 def numbers_of(octets: bytes) -> list[int | None]:
-    """Returns the numbers that tshark lists of a frame: those of data, and those of a block frame. An Ack has none."""
+    """Returns the numbers that tshark lists of a frame: those of data, and those of a block frame. A beacon and a group frame have
+    one, and an Ack has none."""
     if octets[0] == ACK_KIND:
         return [None] * 5
     listed = [int(word) for word in name_of(octets).split() if word.isdigit()]
+    if octets[0] in (BEACON_KIND, GROUP_KIND):
+        return [None, listed[0], None, None, None]
     return [*listed, None, None, None] if octets[0] == DATA_KIND else [None, None, *listed, octets[18] & 15]
+
+
+def expect_beacon(where: str, fields: Sequence[str], said: Beacon | None) -> None:
+    """Compares the fields of a TIM with what the trace's beacon says."""
+    if said is None:
+        raise Difference(f"{where}: tshark reads a beacon that the trace does not have")
+    count, period, bit, offset = [number_in(field) for field in fields[:4]]
+    bitmap = bytes.fromhex(fields[4].replace(":", ""))
+    first = 8 * (offset or 0)
+    aids = [first + 8 * at + nth for at, octet in enumerate(bitmap) for nth in range(8) if octet >> nth & 1]
+    expect(f"{where}, DTIM count, period and bit", (count, period, bit), (said.count, said.period, said.group))
+    expect(f"{where}, AIDs", aids, said.aids)
 
 
 def expect_line(where: str, line: str, packet: Packet) -> None:
     """Compares a line of tshark with its packet."""
     octets = packet.octets
-    time, *fields, bitmap = line.split(";")
+    time, *others = line.split(";")
+    fields, bitmap, tim, destination = others[:10], others[10], others[11:16], others[16]
     expect(f"{where}, time", round(float(time) * MICROSECONDS), packet.seconds * MICROSECONDS + packet.fraction)
     kind, retry, more, malformed, severity, *numbers = [number_in(field) for field in fields]
     if malformed is not None or (severity or 0) >= ERROR:
@@ -60,6 +92,10 @@ def expect_line(where: str, line: str, packet: Packet) -> None:
     expect(f"{where}, numbers", numbers, numbers_of(octets))
     if octets[0] == BLOCK_ACK_KIND:
         expect(f"{where}, bitmap", bytes.fromhex(bitmap.replace(":", "")), octets[20:])
+    if octets[0] == BEACON_KIND:
+        expect_beacon(where, tim, packet.beacon)
+    if octets[0] in (BEACON_KIND, GROUP_KIND):
+        expect(f"{where}, destination", destination, EVERYONE)
 
 
 def read_by_tshark(capture: Capture, path: Path) -> None:

@@ -29,7 +29,7 @@ CLAIMS = "## Claims"
 
 
 def pages_of(top: Path) -> list[Path]:
-    """Returns docs/PROOFS.md, and the READMEs of crates that say what is proved."""
+    """Returns docs/PROOFS.md, and the READMEs of crates that have claims."""
     readmes = sorted((top / "crates").glob("*/README.md"))
     return [top / "docs" / "PROOFS.md", *(path for path in readmes if CLAIMS in paths.read(path).split("\n"))]
 

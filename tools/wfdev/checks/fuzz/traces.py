@@ -36,9 +36,11 @@ LIKELY = {
     "answers": (1,),
     "credits": (1,),
     "legacy": (1, 2, 2),
+    "period": (1, 2, 3),
+    "buffered": (1, 2, 8, 128),
 }
 # How often a setting is in a head, if not three times in ten. With little room most calls do nothing.
-CHANCE = {"stations": 0.6, "room": 0.06, "limit": 0.25, "calls": 0.0, "pending": 0.6}
+CHANCE = {"stations": 0.6, "room": 0.06, "limit": 0.25, "calls": 0.0, "pending": 0.6, "buffered": 0.5}
 WAITING = {"stations": 0.6, "room": 0.0, "limit": 0.0, "calls": 0.0, "agg": 0.8, "pending": 0.6}
 # Settings with which numbers go far in few calls.
 FAR_OFF = {**dict.fromkeys(RANGES, 0.0), "stations": 0.6, "attempts": 0.9, "overhead": 0.3, "answers": 0.3, "pending": 0.3}
@@ -55,7 +57,7 @@ FRAMES = (1, 1, 2, 3, 8, 64, 65_535)
 LIMITS = (1, 40, 100, 300, 1000, 3000, 3001, 2**32 - 1)
 KINDS = (
     "join leave rate ampdu weight tick burst pull arrive answer done unsent giveup flush play back sleep wake poll stop start "
-    "rx reap agree hold begin free cease far wild"
+    "rx reap agree hold begin free cease far group beacon wild"
 ).split()
 
 
@@ -123,6 +125,7 @@ class Maker:
         self.set_weights(join=0.1, leave=0.05, rate=0.2, sleep=0.15, wake=0.3, poll=0.4)
         self.set_weights(play=3.0, answer=0.4, rx=0.1, reap=0.3, wild=0.05, ampdu=0.1, stop=0.1, start=0.3)
         self.set_weights(unsent=0.2, giveup=0.2, flush=0.15, weight=0.3, back=2.0)
+        self.set_weights(group=0.3, beacon=0.3)
         self.set_weights(agree=draw.choice((0.0, 0.3, 3.0)), hold=0.05, begin=0.05, free=0.05, cease=0.05, far=0.0)
         count = self.machine.settings.stations
         drawn = [draw.randrange(count) for _ in range(draw.choice((1, 2, 3, 6)))]
@@ -479,6 +482,27 @@ class Maker:
     def make_reap(self) -> Iterator[str]:
         """Yields a few reaps."""
         yield from ["reap"] * self.draw.choice((1, 3, 10))
+
+    def make_group(self) -> Iterator[str]:
+        """Yields group frames, often more than have room, or the transmission of one."""
+        group = self.machine.group
+        if self.machine.settings.buffered == 0 and self.draw.random() < 0.9:
+            return
+        if self.draw.random() < 0.5:
+            yield from [f"group {self.draw.choice(self.lengths)}"] * self.draw.choice((1, 2, 3, 9))
+            return
+        yield "gpull"
+        if group.flying is not None and self.draw.random() < 0.9:
+            yield "gdone"
+
+    def make_beacon(self) -> Iterator[str]:
+        """Yields a beacon, and often all group frames that may follow it."""
+        yield "beacon"
+        group = self.machine.group
+        while group.may_go(self.machine.sleeps) and self.draw.random() < 0.8:
+            yield "gpull"
+            if self.draw.random() < 0.9:
+                yield "gdone"
 
     def make_wild(self) -> Iterator[str]:
         """Yields any call."""

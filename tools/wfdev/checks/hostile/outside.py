@@ -96,7 +96,7 @@ def input_octet_by_octet(subject: Subject) -> Case:
 
 
 def input_open_after_its_end(subject: Subject) -> Case:
-    """The input stays open after the line `end`, and the command ends all the same."""
+    """The input stays open after the line `end`, and the command ends anyway."""
     case = Case(subject, "standard input open after `end`")
     child = begin(subject.words)
     give(child, subject.given)
