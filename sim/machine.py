@@ -9,7 +9,9 @@ from .frames import Exchange, Frame, GroupSend, Path
 from .program import Pipe
 from .rates import Rate
 from .scenario import Flow, Scenario, Station
+from .settings import settings as known_settings
 
+LONGEST_LINE = 160  # octets of a line of a trace
 LONGEST_TICK = 10_000_000
 MOST_COMING = 200  # enqueues whose answers are not noted yet
 
@@ -24,6 +26,15 @@ class NoRoom(Fault):
 def measured(exchange: Exchange) -> str:
     """The words of a `done` for the airtime that the driver measured, if it charges that."""
     return "" if exchange.charge is None else f" air {exchange.charge}"
+
+
+def head_of(settings: dict[str, int]) -> str:
+    """The first line of a trace with these settings. Those that have their standard values are left out."""
+    words = [f"{name}={value}" for name, value in settings.items() if value != known_settings()[name].standard]
+    head = " ".join(["cell", *words])
+    if len(head) > LONGEST_LINE:
+        raise Fault(f"the settings make a trace's first line of {len(head)} octets: expected at most {LONGEST_LINE}, so set fewer of them")
+    return head
 
 
 class Held(Path):
@@ -96,8 +107,7 @@ class Machine(Held):
     def __init__(self, scenario: Scenario, program: str, calls: int, copy: TextIO | None = None) -> None:
         super().__init__(scenario)
         settings = self.settings(scenario, calls)
-        head = " ".join(["cell", *(f"{name}={value}" for name, value in settings.items())])
-        self.pipe = Pipe(program, head, settings["calls"], copy)
+        self.pipe = Pipe(program, head_of(settings), settings["calls"], copy)
         self.lines: list[str] = []  # calls that wait
         self.notes: list[tuple[int, Frame, int]] = []  # for each enqueue among them its place, the frame, and the time
 
@@ -173,6 +183,15 @@ class Machine(Held):
         answer = self.ask([f"poll {station.number}"])[0].split()
         return answer[1] if answer[0] == "polled" else None
 
+    def apsd(self, station: Station) -> None:
+        self.must(f"apsd {station.number} {station.classes} {station.most}", "set")
+
+    def trigger(self, station: Station) -> bool:
+        return self.ask([f"trigger {station.number}"])[0].startswith("triggered ")
+
+    def end_service(self, station: Station) -> None:
+        self.must(f"eosp {station.number}", "ended")
+
     def received(self, station: Station, frame_class: str, air: int) -> None:
         """Charges a station for what it sent. The machine refuses that to a station whose deficit is as low as it can be."""
         self.add(f"rx {station.number} {frame_class} {air}")
@@ -201,12 +220,14 @@ class Machine(Held):
 
     def pull(self, frame_class: str) -> Exchange | None:
         words = self.ask([f"pull {frame_class}"])[0].split()
+        self.is_ahead = words[1] == "ahead"
         if words[0] != "send":
             return None
         listed = words[9:] if words[8] != "bar" else []
-        frames = [self.frames[int(word.partition(":")[0])] for word in listed if word != "more"]
+        frames = [self.frames[int(word.partition(":")[0])] for word in listed if word not in ("more", "eosp")]
         number, station, tid, air = (int(words[at]) for at in (1, 3, 5, 7))
-        return Exchange(number, station, tid, air, frames, is_batch=words[8] == "batch", is_plain=words[8] == "plain")
+        kinds = {"is_batch": words[8] == "batch", "is_plain": words[8] == "plain", "eosp": words[-1] == "eosp"}
+        return Exchange(number, station, tid, air, frames, **kinds)
 
     def finish(self, exchange: Exchange, arrived: Sequence[bool], heard: bool) -> list[Frame]:
         number = exchange.number

@@ -24,6 +24,7 @@ from .test_agreements import FIRST_FRAME, LEAVING as LEAVING_HELD, SLEEPING as S
 from .test_machine import COMING_AND_GOING, SLEEPING, TCP
 from .test_multicast import RESTLESS, with_period
 from .test_offload import LEAVING, OFFLOADED, SLEEPING as SLEEPING_OFFLOADED
+from .test_service import RESTLESS as IN_SERVICE
 
 MIXED = THREE_STATIONS + """
 [[flow]]
@@ -92,8 +93,9 @@ class TheCell(unittest.TestCase):
         charged = THREE_STATIONS + "[air]\ncharge_access = true\n"
         chosen_all = [scenario(text) for text in (THREE_STATIONS, COMING_AND_GOING, SLEEPING, TCP, MIXED, charged)]
         chosen_all += [scenario(text) for text in (OFFLOADED, SLEEPING_OFFLOADED, LEAVING, FIRST_FRAME, SLEEPING_HELD, LEAVING_HELD, LEGACY)]
-        # With the settings for a device the head of the last one would be longer than a line.
-        for chosen in [*chosen_all, *(one.with_settings(device) for one in chosen_all), scenario(with_period(RESTLESS, 2))]:
+        # With fewer digits the head fits in a line also with the settings for a device.
+        chosen_all += [scenario(with_period(RESTLESS.replace("buffered = 40", "buffered = 9"), 2)), scenario(IN_SERVICE)]
+        for chosen in [*chosen_all, *(one.with_settings(device) for one in chosen_all)]:
             (ours, here), (theirs, there) = (run(chosen, path) for path in (inside(chosen), machine(chosen)))
             self.assertEqual(fates(ours), fates(theirs))
             self.assertEqual(here.calls, there.calls)

@@ -8,8 +8,10 @@ import unittest.mock
 
 from sim.baselines.fq_mac import FqMac
 from sim.fields import Fault
+from sim.machine import head_of
 from sim.models import MODELS
 from sim.program import Pipe
+from sim.settings import settings
 
 from .support import ONE_STATION, THREE_STATIONS, fates, machine, program, run, scenario
 
@@ -200,6 +202,11 @@ class TheMachine(unittest.TestCase):
         chosen = scenario(ONE_STATION + "[machine]\ncharge = 5000\nflows = 512\nsleeping = 10\n")
         _, result = run(chosen, machine(chosen))
         self.assertGreater(result.flows[0].delivered, 0)
+
+    def test_the_first_line_of_a_trace(self) -> None:
+        self.assertEqual(head_of({"flows": settings()["flows"].standard, "sleeping": 10, "charge": 5000}), "cell sleeping=10 charge=5000")
+        with self.assertRaisesRegex(Fault, "first line of [0-9]+ octets: expected at most 160, so set fewer of them"):
+            head_of({name: one.greatest for name, one in settings().items()})
 
     def test_a_program_that_stops(self) -> None:
         pipe = Pipe(program()[0], "cell", 10)
