@@ -11,11 +11,13 @@ use Rattle.wf_frame.specs.declared.calls.Value.TheVariants as value
 use Rattle.wf_frame.specs.declared.notes.Note.{Note}
 use Rattle.wf_frame.specs.declared.notes.Note.TheVariants.{Enqueue, Asked}
 use Rattle.wf_frame.specs.declared.notes.Ask.{Ask}
-use Rattle.wf_frame.specs.declared.notes.Ask.TheVariants.{Rate, Pull, Done, Group}
+use Rattle.wf_frame.specs.declared.notes.Ask.TheVariants.{Rate, Pull, Done, Group, Service}
 use Rattle.wf_frame.specs.declared.notes.GroupAsk.{GroupAsk}
 use Rattle.wf_frame.specs.declared.notes.GroupAsk.TheVariants as group
+use Rattle.wf_frame.specs.declared.notes.ServiceAsk.{ServiceAsk}
+use Rattle.wf_frame.specs.declared.notes.ServiceAsk.TheVariants as service
 use Rattle.wf_frame.specs.declared.notes.AskedRate.TheVariants.{Ht}
-use Rattle.wf_frame.specs.Calls.{args_of, form_of_limits, values_of_frames, values_of_air, form_of_group, values_of_group, limits, ask_of, note_form, note_values, note_made, enqueued, AreOfKinds}
+use Rattle.wf_frame.specs.Calls.{args_of, form_of_limits, values_of_frames, values_of_air, form_of_group, values_of_group, form_of_service, values_of_service, limits, ask_of, note_form, note_values, note_made, enqueued, AreOfKinds}
 
 -- the same for a Pull with these limits
 pull_made_again : (class : Class) (frames air : Option ℕ) →
@@ -34,6 +36,13 @@ group_made_again group.Beacon = refl
 group_made_again group.Pull = refl
 group_made_again group.Done = refl
 
+-- the same for a call about service periods
+service_made_again : (ask : ServiceAsk) →
+    note_made (form_of_service ask) (values_of_service ask) ≡ Some (Asked (Service ask))
+service_made_again (service.Set station classes most) = refl
+service_made_again (service.Trigger station) = refl
+service_made_again (service.End station) = refl
+
 -- the first lines separate rates by their formats, and Done calls with an airtime from those without; the
 -- last line is for each other call
 pub made_again : (note : Note) → note_made (note_form note) (note_values note) ≡ Some note
@@ -41,6 +50,7 @@ made_again (Asked (Rate station (Ht mcs mhz short))) = refl
 made_again (Asked (Done exchange heard None)) = refl
 made_again (Asked (Pull class limits)) = pull_made_again class limits.frames limits.air
 made_again (Asked (Group ask)) = group_made_again ask
+made_again (Asked (Service ask)) = service_made_again ask
 made_again note = refl
 
 -- ---- the frame that values make

@@ -25,8 +25,8 @@ reply_with (brief.Left dropped) pairs ids = reply.Left dropped
 reply_with brief.Set pairs ids = reply.Set
 reply_with (brief.Now now) pairs ids = reply.Now now
 reply_with (brief.Accepted id dropped) pairs ids = reply.Accepted id dropped
-reply_with (brief.Send exchange station tid air request kind more) pairs ids =
-    reply.Send exchange station tid air (part_sent request kind pairs) more
+reply_with (brief.Send exchange station tid air request kind more eosp) pairs ids =
+    reply.Send exchange station tid air (part_sent request kind pairs) more eosp
 reply_with brief.Released pairs ids = reply.Released ids
 reply_with (brief.Ba start b0 b1 b2 b3 wide) pairs ids = reply.Ba start b0 b1 b2 b3 wide
 reply_with (brief.Done acked waiting failed) pairs ids = reply.Done acked waiting failed
@@ -45,6 +45,7 @@ reply_with brief.Begun pairs ids = reply.Begun
 reply_with brief.Freed pairs ids = reply.Freed
 reply_with (brief.Ceased dropped) pairs ids = reply.Ceased dropped ids
 reply_with (brief.Group answer) pairs ids = reply.Group answer
+reply_with (brief.Service answer) pairs ids = reply.Service answer
 reply_with (brief.Refused refusal) pairs ids = reply.Refused refusal
 
 -- the reply of an answer: its brief, with the list that the brief refers to

@@ -15,9 +15,11 @@ use Rattle.wf_frame.specs.declared.calls.Value.TheVariants as value
 use Rattle.wf_frame.specs.declared.notes.Note.{Note}
 use Rattle.wf_frame.specs.declared.notes.Note.TheVariants.{Enqueue, Asked}
 use Rattle.wf_frame.specs.declared.notes.Ask.{Ask}
-use Rattle.wf_frame.specs.declared.notes.Ask.TheVariants.{Join, Leave, Rate, Tick, Pull, Arrive, Answer, Done, Sleep, Wake, Poll, Rx, Reap, Ampdu, Stop, Start, Unsent, GiveUp, Flush, Offload, Weight, Plain, Hold, Begin, Free, Cease, Group}
+use Rattle.wf_frame.specs.declared.notes.Ask.TheVariants.{Join, Leave, Rate, Tick, Pull, Arrive, Answer, Done, Sleep, Wake, Poll, Rx, Reap, Ampdu, Stop, Start, Unsent, GiveUp, Flush, Offload, Weight, Plain, Hold, Begin, Free, Cease, Group, Service}
 use Rattle.wf_frame.specs.declared.notes.GroupAsk.{GroupAsk}
 use Rattle.wf_frame.specs.declared.notes.GroupAsk.TheVariants as group
+use Rattle.wf_frame.specs.declared.notes.ServiceAsk.{ServiceAsk}
+use Rattle.wf_frame.specs.declared.notes.ServiceAsk.TheVariants as service
 use Rattle.wf_frame.specs.declared.notes.Limits.{Limits}
 use Rattle.wf_frame.specs.declared.notes.AskedRate.{AskedRate}
 use Rattle.wf_frame.specs.declared.notes.AskedRate.TheVariants.{Ht, Vht, He, Ofdm, Dsss}
@@ -76,6 +78,17 @@ form_row form.Group = row 27 (codes "group") (codes "group LENGTH")
 form_row form.Beacon = row 28 (codes "beacon") (codes "beacon")
 form_row form.Gpull = row 29 (codes "gpull") (codes "gpull")
 form_row form.Gdone = row 30 (codes "gdone") (codes "gdone")
+form_row form.Apsd = row 31 (codes "apsd") (codes "apsd S CLASSES MAX")
+form_row form.Trigger = row 32 (codes "trigger") (codes "trigger S")
+form_row form.Eosp = row 33 (codes "eosp") (codes "eosp S")
+
+-- The form is one of a call about agreements.
+abbrev pub IsOfAgreement : CallForm → Type 0
+IsOfAgreement form.Hold = Unit {0}
+IsOfAgreement form.Begin = Unit {0}
+IsOfAgreement form.Free = Unit {0}
+IsOfAgreement form.Cease = Unit {0}
+IsOfAgreement _ = ⊥
 
 -- The form is one of a call about group frames.
 abbrev pub IsOfGroup : CallForm → Type 0
@@ -84,6 +97,13 @@ IsOfGroup form.Beacon = Unit {0}
 IsOfGroup form.Gpull = Unit {0}
 IsOfGroup form.Gdone = Unit {0}
 IsOfGroup _ = ⊥
+
+-- The form is one of a call about service periods.
+abbrev pub IsOfService : CallForm → Type 0
+IsOfService form.Apsd = Unit {0}
+IsOfService form.Trigger = Unit {0}
+IsOfService form.Eosp = Unit {0}
+IsOfService _ = ⊥
 
 -- the number of a form's call
 abbrev pub form_number : CallForm → ℕ
@@ -143,6 +163,9 @@ arguments_of form.Group = argument.Length ∷ []
 arguments_of form.Beacon = []
 arguments_of form.Gpull = []
 arguments_of form.Gdone = []
+arguments_of form.Apsd = argument.Station ∷ argument.Classes ∷ argument.Most ∷ []
+arguments_of form.Trigger = argument.Station ∷ []
+arguments_of form.Eosp = argument.Station ∷ []
 
 -- the greatest number of frames that a line gives to a pull as its limit
 abbrev pub greatest_frames : ℕ
@@ -178,6 +201,8 @@ argument_kind argument.Framed = kind.Frames
 argument_kind argument.Frames = kind.Number 1 greatest_frames
 argument_kind argument.Allowed = kind.Number 1 4294967295
 argument_kind argument.Octets = kind.Long
+argument_kind argument.Classes = kind.Octet
+argument_kind argument.Most = kind.Octet
 
 -- the kinds of a form's arguments, in order
 abbrev pub args_of : CallForm → List Arg
@@ -200,7 +225,7 @@ forms =
     ∷ form.Answer ∷ form.Done ∷ form.DoneAir ∷ form.Sleep ∷ form.Wake ∷ form.Poll ∷ form.Rx ∷ form.Reap
     ∷ form.Ampdu ∷ form.Stop ∷ form.Start ∷ form.Unsent ∷ form.GiveUp ∷ form.Flush ∷ form.Offload
     ∷ form.Weight ∷ form.Plain ∷ form.Hold ∷ form.Begin ∷ form.Free ∷ form.Cease ∷ form.Group ∷ form.Beacon
-    ∷ form.Gpull ∷ form.Gdone ∷ []
+    ∷ form.Gpull ∷ form.Gdone ∷ form.Apsd ∷ form.Trigger ∷ form.Eosp ∷ []
 
 -- all calls, in their first forms
 abbrev pub calls : List CallForm
@@ -209,7 +234,7 @@ calls =
     ∷ form.Done ∷ form.Sleep ∷ form.Wake ∷ form.Poll ∷ form.Rx ∷ form.Reap ∷ form.Ampdu ∷ form.Stop
     ∷ form.Start ∷ form.Unsent ∷ form.GiveUp ∷ form.Flush ∷ form.Offload ∷ form.Weight ∷ form.Plain
     ∷ form.Hold ∷ form.Begin ∷ form.Free ∷ form.Cease ∷ form.Group ∷ form.Beacon ∷ form.Gpull ∷ form.Gdone
-    ∷ []
+    ∷ form.Apsd ∷ form.Trigger ∷ form.Eosp ∷ []
 
 -- the first form of the call with this word
 abbrev pub call_named : List ℕ → Option CallForm
@@ -263,6 +288,12 @@ form_of_group group.Beacon = form.Beacon
 form_of_group group.Pull = form.Gpull
 form_of_group group.Done = form.Gdone
 
+-- the form of the line of a call about service periods
+abbrev pub form_of_service : ServiceAsk → CallForm
+form_of_service (service.Set station classes most) = form.Apsd
+form_of_service (service.Trigger station) = form.Trigger
+form_of_service (service.End station) = form.Eosp
+
 -- the form of a call's line
 abbrev pub note_form : Note → CallForm
 note_form (Enqueue station tid flow len) = form.Enqueue
@@ -293,6 +324,7 @@ note_form (Asked (Begin station tid window)) = form.Begin
 note_form (Asked (Free station tid)) = form.Free
 note_form (Asked (Cease station tid)) = form.Cease
 note_form (Asked (Group ask)) = form_of_group ask
+note_form (Asked (Service ask)) = form_of_service ask
 
 -- the values of a rate's arguments after the station
 abbrev pub values_of_rate : AskedRate → List Value
@@ -320,6 +352,13 @@ values_of_group (group.Accept len) = value.Short len ∷ []
 values_of_group group.Beacon = []
 values_of_group group.Pull = []
 values_of_group group.Done = []
+
+-- the values of the arguments of a call about service periods, in order
+abbrev pub values_of_service : ServiceAsk → List Value
+values_of_service (service.Set station classes most) =
+    value.Short station ∷ value.Octet classes ∷ value.Octet most ∷ []
+values_of_service (service.Trigger station) = value.Short station ∷ []
+values_of_service (service.End station) = value.Short station ∷ []
 
 -- the values of a call's arguments, in order
 abbrev pub note_values : Note → List Value
@@ -359,6 +398,7 @@ note_values (Asked (Begin station tid window)) =
 note_values (Asked (Free station tid)) = value.Short station ∷ value.Octet tid ∷ []
 note_values (Asked (Cease station tid)) = value.Short station ∷ value.Octet tid ∷ []
 note_values (Asked (Group ask)) = values_of_group ask
+note_values (Asked (Service ask)) = values_of_service ask
 
 -- the Enqueue call with these values; None if they are no values of its arguments
 abbrev pub enqueued : List Value → Option Note
@@ -427,6 +467,10 @@ ask_of form.Group (value.Short len ∷ []) = Some (Group (group.Accept len))
 ask_of form.Beacon [] = Some (Group group.Beacon)
 ask_of form.Gpull [] = Some (Group group.Pull)
 ask_of form.Gdone [] = Some (Group group.Done)
+ask_of form.Apsd (value.Short station ∷ value.Octet classes ∷ value.Octet most ∷ []) =
+    Some (Service (service.Set station classes most))
+ask_of form.Trigger (value.Short station ∷ []) = Some (Service (service.Trigger station))
+ask_of form.Eosp (value.Short station ∷ []) = Some (Service (service.End station))
 ask_of _ _ = None
 
 -- the call of a form with these values; None if they are no values of its arguments

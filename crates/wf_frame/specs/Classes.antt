@@ -1,5 +1,5 @@
 -- Defines access classes and their TIDs (IEEE 802.11-2012, 9.2.4.2 and table 9-1), and the table of fates.
-use Rattle.std.specs.Prelude.{ℕ, zero, suc, ◌+◌, ◌*◌, ◌==◌, Bool, List, [], ◌∷◌, codes, Option, find}
+use Rattle.std.specs.Prelude.{ℕ, zero, suc, ◌+◌, ◌*◌, ◌/◌, ◌%◌, ◌==◌, Bool, List, [], ◌∷◌, codes, Option, find}
 use Rattle.std.specs.Str.{bytes_eq}
 use Rattle.wf_frame.specs.declared.classes.Class.{Class}
 use Rattle.wf_frame.specs.declared.classes.Class.TheVariants.{Bk, Be, Vi, Vo}
@@ -49,6 +49,17 @@ same_class c d = class_number c == class_number d
 -- the four classes, the least urgent first
 abbrev pub all_classes : List Class
 all_classes = Bk ∷ Be ∷ Vi ∷ Vo ∷ []
+
+-- the greatest number of a set of classes: all four are in it
+abbrev pub greatest_classes : ℕ
+greatest_classes = 15
+
+-- whether a class is in the set with this number: class number c is, if bit c is 1
+abbrev pub has_class : ℕ → Class → Bool
+has_class classes Bk = classes % 2 == 1
+has_class classes Be = classes / 2 % 2 == 1
+has_class classes Vi = classes / 4 % 2 == 1
+has_class classes Vo = classes / 8 % 2 == 1
 
 -- the word of a class in texts
 abbrev pub class_word : Class → List ℕ

@@ -2,7 +2,7 @@
 -- of them.
 use Rattle.std.specs.Prelude.{ℕ, ℤ, pos, ◌==◌, Option, Some, None, List, [], ◌∷◌, codes, find}
 use Rattle.wf_frame.specs.declared.notes.Refusal.{Refusal}
-use Rattle.wf_frame.specs.declared.notes.Refusal.TheVariants.{BadStation, BadWindow, BadStart, BadExponent, BadRate, BadTick, BadTid, BadAir, BadIndex, Live, NoStation, NoExchange, NoAnswer, Open, Room, Sleeping, Full, Idle, Answered, Arrived, Nothing, Asleep, Awake, Polled, Debt, HistoryFull, BadWeight, Ahead, BadAmpdu, Stopped, Started, Marked, Offloaded, Agreed, Held, NotHeld, NotAgreed, Waits, Legacy, Buffered, Flying}
+use Rattle.wf_frame.specs.declared.notes.Refusal.TheVariants.{BadStation, BadWindow, BadStart, BadExponent, BadRate, BadTick, BadTid, BadAir, BadIndex, Live, NoStation, NoExchange, NoAnswer, Open, Room, Sleeping, Full, Idle, Answered, Arrived, Nothing, Asleep, Awake, Polled, Debt, HistoryFull, BadWeight, Ahead, BadAmpdu, Stopped, Started, Marked, Offloaded, Agreed, Held, NotHeld, NotAgreed, Waits, Legacy, Buffered, Flying, BadClasses}
 
 -- begin rows: tools/tables writes these lines
 
@@ -49,6 +49,7 @@ refusal_row (Waits count) = (38, codes "waits")
 refusal_row Legacy = (39, codes "legacy")
 refusal_row (Buffered queued) = (40, codes "buffered")
 refusal_row Flying = (41, codes "flying")
+refusal_row BadClasses = (42, codes "bad-classes")
 
 -- end rows
 
@@ -82,7 +83,7 @@ refusal_list =
     ∷ NoStation ∷ NoExchange ∷ NoAnswer ∷ Open 0 ∷ Room 0 ∷ Sleeping 0 ∷ Full 0 ∷ Idle ∷ Answered ∷ Arrived
     ∷ Nothing ∷ Asleep ∷ Awake ∷ Polled ∷ Debt (pos 0) ∷ HistoryFull ∷ BadWeight ∷ Ahead 0 ∷ BadAmpdu
     ∷ Stopped ∷ Started ∷ Marked ∷ Offloaded ∷ Agreed ∷ Held ∷ NotHeld ∷ NotAgreed ∷ Waits 0 ∷ Legacy
-    ∷ Buffered 0 ∷ Flying ∷ []
+    ∷ Buffered 0 ∷ Flying ∷ BadClasses ∷ []
 
 -- end numbers
 

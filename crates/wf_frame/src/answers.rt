@@ -7,7 +7,7 @@ ghost use Rattle.std.specs.Prelude.{◌≡◌, []};
 ghost use Rattle.wf_frame.specs.declared.notes.Refusal.TheVariants.{Nothing};
 ghost use Rattle.wf_frame.specs.declared.answers.Brief.TheVariants.{Refused};
 
-use crate::{Class, Fate, GroupReply, Ids, Pairs, Refusal};
+use crate::{Class, Fate, GroupReply, Ids, Pairs, Refusal, ServiceReply};
 
 /// How an exchange sends its frames.
 #[derive(Clone, Copy, Debug, PartialEq, Eq)]
@@ -42,7 +42,8 @@ pub enum Brief {
     },
     /// The exchange to send: its number, station, TID (0 to 7) and charge in microseconds. If `request` is
     /// given, it sends a BlockAckReq with this start (0 to 4095), otherwise the frames of `Answer::pairs`, as
-    /// `kind` says. `more` is the More Data bit.
+    /// `kind` says. `more` is the More Data bit, and `eosp` the EOSP bit of its last frame (IEEE 802.11-2012,
+    /// 8.2.4.5.3).
     Send {
         exchange: u64,
         station: u16,
@@ -51,6 +52,7 @@ pub enum Brief {
         request: Option<u16>,
         kind: Kind,
         more: bool,
+        eosp: bool,
     },
     /// The receiver released the frames of `Answer::ids`, in order.
     Released,
@@ -114,6 +116,8 @@ pub enum Brief {
     },
     /// The answer to a call about group frames.
     Group(GroupReply),
+    /// The answer to a call about service periods.
+    Service(ServiceReply),
     /// The call was refused.
     Refused(Refusal),
 }

@@ -28,6 +28,9 @@ pub const GREATEST_WEIGHT: u8 = 16;
 /// The greatest TID that is a user priority (9.2.4.2).
 pub const GREATEST_TID: u8 = 7;
 
+/// The greatest number of a set of classes: that of all four.
+pub const GREATEST_CLASSES: u8 = 15;
+
 /// The greatest step of the clock in one call, in microseconds.
 pub const GREATEST_TICK: u32 = 10_000_000;
 

@@ -2,7 +2,7 @@
 //! and the values that an argument may have.
 
 ghost use Rattle.std.specs.Prelude.{◌≡◌, ◌<◌, ◌≤◌, length};
-ghost use Rattle.wf_frame.specs.Calls.{IsOfGroup, form_number, call_word, form_line, forms, call_named, call_numbered, arguments_of, argument_kind, default_of, format_word as word_of_format, format_named};
+ghost use Rattle.wf_frame.specs.Calls.{IsOfAgreement, IsOfGroup, IsOfService, form_number, call_word, form_line, forms, call_named, call_numbered, arguments_of, argument_kind, default_of, format_word as word_of_format, format_named};
 
 use crate::Class;
 
@@ -98,6 +98,13 @@ pub enum CallForm {
     Gpull,
     /// The transmission of a group frame ended.
     Gdone,
+    /// The station has these delivery-enabled classes from now on: CLASSES is the sum of 1 for bk, 2 for be,
+    /// 4 for vi and 8 for vo; MAX is the most frames of a service period, 0 for no limit.
+    Apsd,
+    /// A sleeping station begins a service period by a trigger frame.
+    Trigger,
+    /// The device ended a service period by a frame without data.
+    Eosp,
 }
 
 /// The format of a rate, if its line has a word for it. A rate of HT has none.
@@ -168,6 +175,10 @@ pub enum Argument {
     Allowed,
     /// The most octets of an aggregate.
     Octets,
+    /// The delivery-enabled classes of a station.
+    Classes,
+    /// The most frames of a service period.
+    Most,
 }
 
 /// The kind of an argument: which values it may have.
@@ -237,7 +248,7 @@ impl Default for Value {
     }
 }
 
-const CALLS: [CallForm; 31] = [
+const CALLS: [CallForm; 34] = [
     CallForm::Join,
     CallForm::Leave,
     CallForm::Rate,
@@ -269,9 +280,12 @@ const CALLS: [CallForm; 31] = [
     CallForm::Beacon,
     CallForm::Gpull,
     CallForm::Gdone,
+    CallForm::Apsd,
+    CallForm::Trigger,
+    CallForm::Eosp,
 ];
 
-const FORMS: [CallForm; 39] = [
+const FORMS: [CallForm; 42] = [
     CallForm::Join,
     CallForm::Leave,
     CallForm::Rate,
@@ -311,6 +325,9 @@ const FORMS: [CallForm; 39] = [
     CallForm::Beacon,
     CallForm::Gpull,
     CallForm::Gdone,
+    CallForm::Apsd,
+    CallForm::Trigger,
+    CallForm::Eosp,
 ];
 
 impl RateFormat {
@@ -347,7 +364,7 @@ impl CallForm {
         ensures number { result.0 ≡ form_number self }
         ensures word { result.1.now ≡ call_word self }
         ensures line { result.2.now ≡ form_line self }
-        ensures range { result.0 < 31 }
+        ensures range { result.0 < 34 }
         ensures short { length result.1.now ≤ 7 }
     {
         match self {
@@ -382,13 +399,31 @@ impl CallForm {
             CallForm::Offload => (20, b"offload", b"offload S X [G]"),
             CallForm::Weight => (21, b"weight", b"weight S G"),
             CallForm::Plain => (22, b"plain", b"plain S START X [G]"),
+            CallForm::Hold | CallForm::Begin | CallForm::Free | CallForm::Cease => {
+                self.agreement_row()
+            }
+            CallForm::Group | CallForm::Beacon | CallForm::Gpull | CallForm::Gdone => {
+                self.group_row()
+            }
+            CallForm::Apsd | CallForm::Trigger | CallForm::Eosp => self.service_row(),
+        }
+    }
+
+    // The rows of the calls about agreements.
+    fn agreement_row(self) -> (u8, &'static [u8], &'static [u8])
+        requires { IsOfAgreement self }
+        ensures number { result.0 ≡ form_number self }
+        ensures word { result.1.now ≡ call_word self }
+        ensures line { result.2.now ≡ form_line self }
+        ensures range { result.0 < 34 }
+        ensures short { length result.1.now ≤ 7 }
+    {
+        match self {
             CallForm::Hold => (23, b"hold", b"hold S TID"),
             CallForm::Begin => (24, b"begin", b"begin S TID W"),
             CallForm::Free => (25, b"free", b"free S TID"),
             CallForm::Cease => (26, b"cease", b"cease S TID"),
-            CallForm::Group | CallForm::Beacon | CallForm::Gpull | CallForm::Gdone => {
-                self.group_row()
-            }
+            _ => NO_ROW,
         }
     }
 
@@ -398,7 +433,7 @@ impl CallForm {
         ensures number { result.0 ≡ form_number self }
         ensures word { result.1.now ≡ call_word self }
         ensures line { result.2.now ≡ form_line self }
-        ensures range { result.0 < 31 }
+        ensures range { result.0 < 34 }
         ensures short { length result.1.now ≤ 7 }
     {
         match self {
@@ -410,17 +445,34 @@ impl CallForm {
         }
     }
 
+    // The rows of the calls about service periods.
+    fn service_row(self) -> (u8, &'static [u8], &'static [u8])
+        requires { IsOfService self }
+        ensures number { result.0 ≡ form_number self }
+        ensures word { result.1.now ≡ call_word self }
+        ensures line { result.2.now ≡ form_line self }
+        ensures range { result.0 < 34 }
+        ensures short { length result.1.now ≤ 7 }
+    {
+        match self {
+            CallForm::Apsd => (31, b"apsd", b"apsd S CLASSES MAX"),
+            CallForm::Trigger => (32, b"trigger", b"trigger S"),
+            CallForm::Eosp => (33, b"eosp", b"eosp S"),
+            _ => NO_ROW,
+        }
+    }
+
     /// Returns all forms, in the order of the help.
-    pub fn all() -> [CallForm; 39]
+    pub fn all() -> [CallForm; 42]
         ensures { result ≡ forms }
     {
         FORMS
     }
 
-    /// Returns the number of its call in C: 0 to 30.
+    /// Returns the number of its call in C: 0 to 33.
     pub fn number(self) -> u8
         ensures number { result ≡ form_number self }
-        ensures range { result < 31 }
+        ensures range { result < 34 }
     {
         self.row().0
     }
@@ -497,7 +549,10 @@ impl CallForm {
             | CallForm::Wake
             | CallForm::Poll
             | CallForm::Stop
-            | CallForm::Start => &[Argument::Station],
+            | CallForm::Start
+            | CallForm::Trigger
+            | CallForm::Eosp => &[Argument::Station],
+            CallForm::Apsd => &[Argument::Station, Argument::Classes, Argument::Most],
             CallForm::Rx => &[Argument::Station, Argument::Class, Argument::Air],
             CallForm::Reap | CallForm::Beacon | CallForm::Gpull | CallForm::Gdone => &[],
             CallForm::Group => &[Argument::Length],
@@ -590,7 +645,9 @@ impl Argument {
             | Argument::Speed
             | Argument::HalfSpeed
             | Argument::NewWeight
-            | Argument::Tid => Arg::Octet,
+            | Argument::Tid
+            | Argument::Classes
+            | Argument::Most => Arg::Octet,
             Argument::By | Argument::Flow | Argument::Air | Argument::Octets => Arg::Long,
             Argument::Exchange => Arg::Exchange,
             Argument::Weight => Arg::Weight,

@@ -1,7 +1,7 @@
 //! Access classes, and the table of fates, which are the ends of a frame.
 
 ghost use Rattle.std.specs.Prelude.{◌≡◌, ◌<◌, ◌≤◌, [], ◌∷◌, length};
-ghost use Rattle.wf_frame.specs.Classes.{all_classes, class_number, class_of, lower_tid, upper_tid, class_named, class_word, tid_number, fate_number, fate_word, fate_numbered};
+ghost use Rattle.wf_frame.specs.Classes.{all_classes, class_number, class_of, lower_tid, upper_tid, class_named, class_word, has_class, tid_number, fate_number, fate_word, fate_numbered};
 
 /// An access category of IEEE 802.11-2012 (9.2.4.2). The least urgent comes first.
 #[derive(Clone, Copy, Debug, PartialEq, Eq)]
@@ -59,6 +59,18 @@ impl Class {
             Class::Be => [0, 3],
             Class::Vi => [4, 5],
             Class::Vo => [6, 7],
+        }
+    }
+
+    /// Returns whether the class is in a set of classes: class number c is, if bit c of `classes` is 1.
+    pub fn is_in(self, classes: u8) -> bool
+        ensures { result ≡ has_class classes self }
+    {
+        match self {
+            Class::Bk => classes % 2 == 1,
+            Class::Be => classes / 2 % 2 == 1,
+            Class::Vi => classes / 4 % 2 == 1,
+            Class::Vo => classes / 8 % 2 == 1,
         }
     }
 

@@ -31,12 +31,15 @@ mod values;
 
 pub use answers::{Answer, Brief, Kind};
 pub use bounds::{
-    COUNT_LIMIT, GREATEST_AIR, GREATEST_AMPDU, GREATEST_EXPONENT, GREATEST_START, GREATEST_TICK,
-    GREATEST_TID, GREATEST_WEIGHT, GREATEST_WINDOW, LEAST_AMPDU, NARROW_WINDOW,
+    COUNT_LIMIT, GREATEST_AIR, GREATEST_AMPDU, GREATEST_CLASSES, GREATEST_EXPONENT, GREATEST_START,
+    GREATEST_TICK, GREATEST_TID, GREATEST_WEIGHT, GREATEST_WINDOW, LEAST_AMPDU, NARROW_WINDOW,
 };
 pub use calls::{Arg, Argument, CallForm, RateFormat, Value};
 pub use classes::{Cause, Class, Fate, tid_number};
 pub use frames::{Frame, GREATEST_BODY, source_address};
 pub use lists::{FixedList, Ids, Pairs};
-pub use notes::{Ask, AskedRate, GroupAsk, GroupReply, Limits, Note, Part, Refusal, ReplyNote};
+pub use notes::{
+    Ask, AskedRate, GroupAsk, GroupReply, Limits, Note, Part, Refusal, ReplyNote, ServiceAsk,
+    ServiceReply,
+};
 pub use settings::{Config, Field};

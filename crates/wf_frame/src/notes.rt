@@ -57,7 +57,7 @@ impl Limits {
     };
 }
 
-/// A call that brings no frame for a station: one of twenty-seven. An argument outside its given range is
+/// A call that brings no frame for a station: one of twenty-eight. An argument outside its given range is
 /// refused.
 #[derive(Clone, Copy, Debug, PartialEq, Eq)]
 pub enum Ask {
@@ -201,6 +201,8 @@ pub enum Ask {
     },
     /// A call about group frames.
     Group(GroupAsk),
+    /// A call about the service periods of a station.
+    Service(ServiceAsk),
 }
 
 /// A call about group frames: data frames whose first address is the address of a group. They are apart from
@@ -215,6 +217,19 @@ pub enum GroupAsk {
     Pull,
     /// The transmission of the group frame that is on the air has ended.
     Done,
+}
+
+/// A call about the service periods of a station that sleeps (U-APSD; IEEE 802.11-2012, 10.2.1.5): while one
+/// is open, the station may receive frames of its delivery-enabled classes.
+#[derive(Clone, Copy, Debug, PartialEq, Eq)]
+pub enum ServiceAsk {
+    /// A station has these delivery-enabled classes from now on, 0 to 15: bit c is 1 if class number c is one
+    /// (0 bk .. 3 vo). A service period has at most `most` frames, and any number if it is 0.
+    Set { station: u16, classes: u8, most: u8 },
+    /// A sleeping station sent a trigger frame, with which a service period begins.
+    Trigger { station: u16 },
+    /// The device sent a QoS Null frame with the EOSP bit, which ends a service period.
+    End { station: u16 },
 }
 
 /// A call as numbers.
@@ -297,11 +312,12 @@ pub enum Refusal {
     Arrived,
     /// There is nothing to answer, to send, to reap or to end.
     Nothing,
-    /// The station is asleep already.
+    /// `sleep`: the station is asleep already; `apsd`: the station is asleep.
     Asleep,
     /// The station is awake.
     Awake,
-    /// The station has a credit that is not spent yet.
+    /// `poll`: the station has a credit that is not spent yet; `trigger`: its service period is open
+    /// already.
     Polled,
     /// The deficit, which stays at `deficit`, would fall below -`debt` microseconds.
     Debt { deficit: i64 },
@@ -337,6 +353,8 @@ pub enum Refusal {
     Buffered { queued: u32 },
     /// A group frame is on the air.
     Flying,
+    /// The delivery-enabled classes are not 0 to 15.
+    BadClasses,
     // end refusals
 }
 
@@ -362,7 +380,7 @@ pub enum ReplyNote {
         dropped: Option<u64>,
     },
     /// The exchange to send: its number, station, TID (0 to 7), charge in microseconds, and content. `more`
-    /// is the More Data bit.
+    /// is the More Data bit, and `eosp` the EOSP bit of its last frame (IEEE 802.11-2012, 8.2.4.5.3).
     Send {
         exchange: u64,
         station: u16,
@@ -370,6 +388,7 @@ pub enum ReplyNote {
         air: u32,
         part: Part,
         more: bool,
+        eosp: bool,
     },
     /// The ids of the frames that the receiver released, in order.
     Released {
@@ -435,8 +454,21 @@ pub enum ReplyNote {
     },
     /// The answer to a call about group frames.
     Group(GroupReply),
+    /// The answer to a call about service periods.
+    Service(ServiceReply),
     /// The call was refused.
     Refused(Refusal),
+}
+
+/// The answer to a call about the service periods of a station.
+#[derive(Clone, Copy, Debug, PartialEq, Eq)]
+pub enum ServiceReply {
+    /// The delivery-enabled classes are set.
+    Set,
+    /// A service period is open; this is the most urgent delivery-enabled class that can send.
+    Triggered { class: Class },
+    /// The service period ended.
+    Ended,
 }
 
 /// The answer to a call about group frames, whose ids are apart from those of other frames.

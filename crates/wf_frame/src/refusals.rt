@@ -6,7 +6,7 @@ ghost use Rattle.wf_frame.specs.Refusals.{refusal_number, refusal_word, number_t
 use crate::Refusal;
 
 // The refusals by their numbers. A number that follows the word is 0.
-const REFUSALS: [Refusal; 41] = [
+const REFUSALS: [Refusal; 42] = [
     // begin list: tools/tables writes these lines
     Refusal::BadStation,
     Refusal::BadWindow,
@@ -49,6 +49,7 @@ const REFUSALS: [Refusal; 41] = [
     Refusal::Legacy,
     Refusal::Buffered { queued: 0 },
     Refusal::Flying,
+    Refusal::BadClasses,
     // end list
 ];
 
@@ -57,7 +58,7 @@ impl Refusal {
     fn row(self) -> (u8, &'static [u8])
         ensures number { result.0 ≡ refusal_number self }
         ensures word { result.1.now ≡ refusal_word self }
-        ensures range { (0 < result.0) × (result.0 ≤ 41) }
+        ensures range { (0 < result.0) × (result.0 ≤ 42) }
         ensures short { length result.1.now ≤ 12 }
     {
         match self {
@@ -103,14 +104,15 @@ impl Refusal {
             Refusal::Legacy => (39, b"legacy"),
             Refusal::Buffered { .. } => (40, b"buffered"),
             Refusal::Flying => (41, b"flying"),
+            Refusal::BadClasses => (42, b"bad-classes"),
             // end rows
         }
     }
 
-    /// Returns the number of the refusal in C: 1 to 41.
+    /// Returns the number of the refusal in C: 1 to 42.
     pub fn number(self) -> u8
         ensures number { result ≡ refusal_number self }
-        ensures range { (0 < result) × (result ≤ 41) }
+        ensures range { (0 < result) × (result ≤ 42) }
     {
         self.row().0
     }

@@ -2,13 +2,13 @@
 
 ghost use Rattle.std.specs.Prelude.{◌≡◌, ◌≤◌, [], ◌∷◌, length, Some};
 ghost use Rattle.wf_frame.specs.declared.notes.Note.TheVariants.{Asked};
-ghost use Rattle.wf_frame.specs.declared.notes.Ask.TheVariants.{Join, Rate, Pull, Arrive, Done, Group};
-ghost use Rattle.wf_frame.specs.declared.calls.Argument.TheVariants.{Station, Exchange, Index};
-ghost use Rattle.wf_frame.specs.Calls.{note_form, form_of_rate, form_of_limits, limits, form_of_group, values_of_group, note_values, note_made, enqueued, ask_of, arguments_of, IsPrintable, NumbersAreInRange};
+ghost use Rattle.wf_frame.specs.declared.notes.Ask.TheVariants.{Join, Rate, Pull, Arrive, Done, Group, Service};
+ghost use Rattle.wf_frame.specs.declared.calls.Argument.TheVariants.{Station, Exchange, Index, Tid};
+ghost use Rattle.wf_frame.specs.Calls.{note_form, form_of_rate, form_of_limits, limits, form_of_group, values_of_group, form_of_service, values_of_service, note_values, note_made, enqueued, ask_of, arguments_of, IsPrintable, NumbersAreInRange};
 
 use crate::Class;
 use crate::calls::{CallForm, RateFormat, Value};
-use crate::notes::{Ask, AskedRate, GroupAsk, Limits, Note};
+use crate::notes::{Ask, AskedRate, GroupAsk, Limits, Note, ServiceAsk};
 use arrayvec::ArrayVec;
 
 impl Note {
@@ -91,6 +91,7 @@ impl Ask {
             Ask::Free { .. } => CallForm::Free,
             Ask::Cease { .. } => CallForm::Cease,
             Ask::Group(ask) => ask.form(),
+            Ask::Service(ask) => ask.form(),
         }
     }
 
@@ -171,6 +172,7 @@ impl Ask {
                 listed(&[Value::Short(station), Value::Octet(weight)])
             }
             Ask::Group(ask) => ask.values(),
+            Ask::Service(ask) => ask.values(),
         }
     }
 }
@@ -196,6 +198,40 @@ impl GroupAsk {
         match self {
             GroupAsk::Accept { len } => listed(&[Value::Short(len)]),
             GroupAsk::Beacon | GroupAsk::Pull | GroupAsk::Done => listed(&[]),
+        }
+    }
+}
+
+impl ServiceAsk {
+    // The form of its line.
+    fn form(self) -> CallForm
+        ensures { result ≡ form_of_service self }
+    {
+        match self {
+            ServiceAsk::Set { .. } => CallForm::Apsd,
+            ServiceAsk::Trigger { .. } => CallForm::Trigger,
+            ServiceAsk::End { .. } => CallForm::Eosp,
+        }
+    }
+
+    // The values of its arguments, in order.
+    fn values(self) -> ArrayVec<Value, 6>
+        ensures values { result.items ≡ values_of_service self }
+        ensures range { NumbersAreInRange (Asked (Service self)) }
+    {
+        match self {
+            ServiceAsk::Set {
+                station,
+                classes,
+                most,
+            } => listed(&[
+                Value::Short(station),
+                Value::Octet(classes),
+                Value::Octet(most),
+            ]),
+            ServiceAsk::Trigger { station } | ServiceAsk::End { station } => {
+                listed(&[Value::Short(station)])
+            }
         }
     }
 }
@@ -386,7 +422,9 @@ fn ask_made(form: CallForm, values: &[Value]) -> Option<Ask>
         | CallForm::Wake
         | CallForm::Poll
         | CallForm::Stop
-        | CallForm::Start => to_station(form, values),
+        | CallForm::Start
+        | CallForm::Trigger
+        | CallForm::Eosp => to_station(form, values),
         CallForm::Rate => ht(values),
         CallForm::RateVht => vht(values),
         CallForm::RateHe => he(values),
@@ -404,15 +442,13 @@ fn ask_made(form: CallForm, values: &[Value]) -> Option<Ask>
         CallForm::DoneAir => done_air(values),
         CallForm::Rx => rx(values),
         CallForm::Ampdu => ampdu(values),
-        CallForm::Flush => flush(values),
+        CallForm::Flush | CallForm::Hold | CallForm::Free | CallForm::Cease => to_tid(form, values),
         CallForm::Offload => offload(values),
         CallForm::Weight => weigh(values),
         CallForm::Plain => plain(values),
-        CallForm::Hold => hold(values),
         CallForm::Begin => begin(values),
-        CallForm::Free => free(values),
-        CallForm::Cease => cease(values),
         CallForm::Group => group(values),
+        CallForm::Apsd => apsd(values),
         CallForm::Reap | CallForm::Beacon | CallForm::Gpull | CallForm::Gdone => {
             without_values(form, values)
         }
@@ -434,6 +470,25 @@ fn to_station(form: CallForm, values: &[Value]) -> Option<Ask>
         CallForm::Poll => Some(Ask::Poll { station }),
         CallForm::Stop => Some(Ask::Stop { station }),
         CallForm::Start => Some(Ask::Start { station }),
+        CallForm::Trigger => Some(Ask::Service(ServiceAsk::Trigger { station })),
+        CallForm::Eosp => Some(Ask::Service(ServiceAsk::End { station })),
+        _ => None,
+    }
+}
+
+// The call with these values on a TID of a station.
+fn to_tid(form: CallForm, values: &[Value]) -> Option<Ask>
+    requires { arguments_of form ≡ Station ∷ Tid ∷ [] }
+    ensures { result ≡ ask_of form values.now }
+{
+    let [Value::Short(station), Value::Octet(tid)] = *values else {
+        return None;
+    };
+    match form {
+        CallForm::Flush => Some(Ask::Flush { station, tid }),
+        CallForm::Hold => Some(Ask::Hold { station, tid }),
+        CallForm::Free => Some(Ask::Free { station, tid }),
+        CallForm::Cease => Some(Ask::Cease { station, tid }),
         _ => None,
     }
 }
@@ -692,16 +747,6 @@ fn ampdu(values: &[Value]) -> Option<Ask>
     Some(Ask::Ampdu { station, octets })
 }
 
-// The Flush call with these values.
-fn flush(values: &[Value]) -> Option<Ask>
-    ensures { result ≡ ask_of CallForm.Flush values.now }
-{
-    let [Value::Short(station), Value::Octet(tid)] = *values else {
-        return None;
-    };
-    Some(Ask::Flush { station, tid })
-}
-
 // The Offload call with these values.
 fn offload(values: &[Value]) -> Option<Ask>
     ensures { result ≡ ask_of CallForm.Offload values.now }
@@ -752,16 +797,6 @@ fn plain(values: &[Value]) -> Option<Ask>
     })
 }
 
-// The Hold call with these values.
-fn hold(values: &[Value]) -> Option<Ask>
-    ensures { result ≡ ask_of CallForm.Hold values.now }
-{
-    let [Value::Short(station), Value::Octet(tid)] = *values else {
-        return None;
-    };
-    Some(Ask::Hold { station, tid })
-}
-
 // The Begin call with these values.
 fn begin(values: &[Value]) -> Option<Ask>
     ensures { result ≡ ask_of CallForm.Begin values.now }
@@ -781,26 +816,6 @@ fn begin(values: &[Value]) -> Option<Ask>
     })
 }
 
-// The Free call with these values.
-fn free(values: &[Value]) -> Option<Ask>
-    ensures { result ≡ ask_of CallForm.Free values.now }
-{
-    let [Value::Short(station), Value::Octet(tid)] = *values else {
-        return None;
-    };
-    Some(Ask::Free { station, tid })
-}
-
-// The Cease call with these values.
-fn cease(values: &[Value]) -> Option<Ask>
-    ensures { result ≡ ask_of CallForm.Cease values.now }
-{
-    let [Value::Short(station), Value::Octet(tid)] = *values else {
-        return None;
-    };
-    Some(Ask::Cease { station, tid })
-}
-
 // The call with these values that accepts a group frame.
 fn group(values: &[Value]) -> Option<Ask>
     ensures { result ≡ ask_of CallForm.Group values.now }
@@ -809,6 +824,25 @@ fn group(values: &[Value]) -> Option<Ask>
         return None;
     };
     Some(Ask::Group(GroupAsk::Accept { len }))
+}
+
+// The call with these values that sets the delivery-enabled classes of a station.
+fn apsd(values: &[Value]) -> Option<Ask>
+    ensures { result ≡ ask_of CallForm.Apsd values.now }
+{
+    let [
+        Value::Short(station),
+        Value::Octet(classes),
+        Value::Octet(most),
+    ] = *values
+    else {
+        return None;
+    };
+    Some(Ask::Service(ServiceAsk::Set {
+        station,
+        classes,
+        most,
+    }))
 }
 
 // The call of this form, which has no values.
