@@ -218,7 +218,7 @@ pub beside_a_station : replies
     Accepted 0 None ∷
     reply.Group (answer.Queued 0) ∷
     reply.Group (answer.Send 0 0 76 false) ∷
-    Send 0 0 0 1988 (Mpdus ((0, 100) ∷ [])) false ∷
+    Send 0 0 0 1988 (Mpdus ((0, 100) ∷ [])) false false ∷
     reply.Done 0 1 0 ∷
     reply.Group (answer.Done 0) ∷
     Refused Nothing ∷ []

@@ -41,13 +41,13 @@ one_frame_at_each_rate_calls = map (by 0) (
 pub one_frame_at_each_rate : drop 8 (replies (opening (record standard { legacy = 2; inflight = 4 }))
     one_frame_at_each_rate_calls) ≡
     Accepted 0 None ∷
-    Send 0 0 0 2108 (part.Plain ((0, 100) ∷ [])) false ∷
+    Send 0 0 0 2108 (part.Plain ((0, 100) ∷ [])) false false ∷
     Accepted 1 None ∷
-    Send 1 1 0 292 (part.Plain ((1, 100) ∷ [])) false ∷
+    Send 1 1 0 292 (part.Plain ((1, 100) ∷ [])) false false ∷
     Accepted 2 None ∷
-    Send 2 2 0 12476 (part.Plain ((2, 100) ∷ [])) false ∷
+    Send 2 2 0 12476 (part.Plain ((2, 100) ∷ [])) false false ∷
     Accepted 3 None ∷
-    Send 3 3 0 1349 (part.Plain ((3, 100) ∷ [])) false ∷ []
+    Send 3 3 0 1349 (part.Plain ((3, 100) ∷ [])) false false ∷ []
 unfolding the_machine
 one_frame_at_each_rate = refl
 
@@ -55,13 +55,13 @@ one_frame_at_each_rate = refl
 pub one_frame_with_answers : drop 8 (replies
     (opening (record standard { legacy = 2; inflight = 4; answers = 1 })) one_frame_at_each_rate_calls) ≡
     Accepted 0 None ∷
-    Send 0 0 0 2124 (part.Plain ((0, 100) ∷ [])) false ∷
+    Send 0 0 0 2124 (part.Plain ((0, 100) ∷ [])) false false ∷
     Accepted 1 None ∷
-    Send 1 1 0 292 (part.Plain ((1, 100) ∷ [])) false ∷
+    Send 1 1 0 292 (part.Plain ((1, 100) ∷ [])) false false ∷
     Accepted 2 None ∷
-    Send 2 2 0 12752 (part.Plain ((2, 100) ∷ [])) false ∷
+    Send 2 2 0 12752 (part.Plain ((2, 100) ∷ [])) false false ∷
     Accepted 3 None ∷
-    Send 3 3 0 1569 (part.Plain ((3, 100) ∷ [])) false ∷ []
+    Send 3 3 0 1569 (part.Plain ((3, 100) ∷ [])) false false ∷ []
 unfolding the_machine
 one_frame_with_answers = refl
 
@@ -132,9 +132,9 @@ batch_of_one_calls = map (by 0) (
     [])
 
 pub batch_of_one : drop 4 (replies (opening (record standard { legacy = 1 })) batch_of_one_calls) ≡
-    Send 0 0 0 292 (Batch (0 ∷ [])) false ∷
+    Send 0 0 0 292 (Batch (0 ∷ [])) false false ∷
     Released [] ∷
     reply.Done 1 0 0 ∷
-    Send 1 0 0 292 (Batch (1 ∷ [])) false ∷ []
+    Send 1 0 0 292 (Batch (1 ∷ [])) false false ∷ []
 unfolding the_machine
 batch_of_one = refl

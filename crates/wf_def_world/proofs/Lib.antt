@@ -5,6 +5,8 @@ mod Texts
 mod NearMisses
 mod LegacyRows
 mod GroupRows
+mod ServiceRows
+pub mod Unserved
 mod Charges
 pub mod Longest
 pub mod Fitting

@@ -36,10 +36,10 @@ tids_of_a_class_take_turns_calls = map (by 0) (
 
 pub tids_of_a_class_take_turns : drop 5 (replies
     (opening (record standard { agg = 1; inflight = 4 })) tids_of_a_class_take_turns_calls) ≡
-    Send 0 0 0 256 (Mpdus ((0, 0) ∷ [])) false ∷
-    Send 1 0 3 256 (Mpdus ((2, 0) ∷ [])) false ∷
-    Send 2 0 0 256 (Mpdus ((1, 1) ∷ [])) false ∷
-    Send 3 0 3 256 (Mpdus ((3, 1) ∷ [])) false ∷ []
+    Send 0 0 0 256 (Mpdus ((0, 0) ∷ [])) false false ∷
+    Send 1 0 3 256 (Mpdus ((2, 0) ∷ [])) false false ∷
+    Send 2 0 0 256 (Mpdus ((1, 1) ∷ [])) false false ∷
+    Send 3 0 3 256 (Mpdus ((3, 1) ∷ [])) false false ∷ []
 unfolding the_machine
 tids_of_a_class_take_turns = refl
 
@@ -61,10 +61,10 @@ pub turn_goes_to_the_tid_that_did_not_send : replies
     Joined ∷
     Accepted 0 None ∷
     Accepted 1 None ∷
-    Send 0 0 3 256 (Mpdus ((0, 0) ∷ [])) false ∷
+    Send 0 0 3 256 (Mpdus ((0, 0) ∷ [])) false false ∷
     Accepted 2 None ∷
-    Send 1 0 0 256 (Mpdus ((2, 0) ∷ [])) false ∷
-    Send 2 0 3 256 (Mpdus ((1, 1) ∷ [])) false ∷ []
+    Send 1 0 0 256 (Mpdus ((2, 0) ∷ [])) false false ∷
+    Send 2 0 3 256 (Mpdus ((1, 1) ∷ [])) false false ∷ []
 unfolding the_machine
 turn_goes_to_the_tid_that_did_not_send = refl
 
@@ -80,7 +80,7 @@ queues_of_a_tid_share_by_octets_calls = map (by 0) (
 pub queues_of_a_tid_share_by_octets : drop 11
     (replies (opening standard) queues_of_a_tid_share_by_octets_calls) ≡
     Send 0 0 0 2252 (Mpdus ((0, 0) ∷ (1, 1) ∷ (4, 2) ∷ (5, 3) ∷ (6, 4) ∷ (2, 5) ∷ (7, 6) ∷ (8, 7) ∷ (9, 8)
-    ∷ (3, 9) ∷ [])) false ∷ []
+    ∷ (3, 9) ∷ [])) false false ∷ []
 unfolding the_machine
 queues_of_a_tid_share_by_octets = refl
 
@@ -97,13 +97,13 @@ fresh_queue_goes_first_calls = map (by 0) (
 
 pub fresh_queue_goes_first : drop 6 (replies (opening (record standard { agg = 1; inflight = 8 }))
     fresh_queue_goes_first_calls) ≡
-    Send 0 0 0 256 (Mpdus ((0, 0) ∷ [])) false ∷
-    Send 1 0 0 256 (Mpdus ((1, 1) ∷ [])) false ∷
-    Send 2 0 0 256 (Mpdus ((2, 2) ∷ [])) false ∷
-    Send 3 0 0 256 (Mpdus ((3, 3) ∷ [])) false ∷
+    Send 0 0 0 256 (Mpdus ((0, 0) ∷ [])) false false ∷
+    Send 1 0 0 256 (Mpdus ((1, 1) ∷ [])) false false ∷
+    Send 2 0 0 256 (Mpdus ((2, 2) ∷ [])) false false ∷
+    Send 3 0 0 256 (Mpdus ((3, 3) ∷ [])) false false ∷
     Accepted 5 None ∷
-    Send 4 0 0 256 (Mpdus ((5, 4) ∷ [])) false ∷
-    Send 5 0 0 256 (Mpdus ((4, 5) ∷ [])) false ∷ []
+    Send 4 0 0 256 (Mpdus ((5, 4) ∷ [])) false false ∷
+    Send 5 0 0 256 (Mpdus ((4, 5) ∷ [])) false false ∷ []
 unfolding the_machine
 fresh_queue_goes_first = refl
 
@@ -224,7 +224,7 @@ pub first_fault_of_an_exchange : replies (opening (record standard { inflight = 
     first_fault_of_an_exchange_calls ≡
     Joined ∷
     Accepted 0 None ∷
-    Send 0 0 0 256 (Mpdus ((0, 0) ∷ [])) false ∷
+    Send 0 0 0 256 (Mpdus ((0, 0) ∷ [])) false false ∷
     Refused (Full 1) ∷
     Released (0 ∷ []) ∷
     Ba 0 1 0 0 0 false ∷
@@ -337,10 +337,10 @@ exponent_zero_of_two_formats_calls = map (by 0) (
     [])
 
 pub exponent_zero_of_two_formats : drop 15 (replies (opening standard) exponent_zero_of_two_formats_calls) ≡
-    Send 0 0 0 1032 (Mpdus ((0, 0) ∷ (1, 1) ∷ (2, 2) ∷ (3, 3) ∷ (4, 4) ∷ [])) false ∷
+    Send 0 0 0 1032 (Mpdus ((0, 0) ∷ (1, 1) ∷ (2, 2) ∷ (3, 3) ∷ (4, 4) ∷ [])) false false ∷
     Set ∷
     Send 1 0 0 1412 (Mpdus
-    ((5, 5) ∷ (6, 6) ∷ (7, 7) ∷ (8, 8) ∷ (9, 9) ∷ (10, 10) ∷ (11, 11) ∷ [])) false ∷ []
+    ((5, 5) ∷ (6, 6) ∷ (7, 7) ∷ (8, 8) ∷ (9, 9) ∷ (10, 10) ∷ (11, 11) ∷ [])) false false ∷ []
 unfolding the_machine
 exponent_zero_of_two_formats = refl
 

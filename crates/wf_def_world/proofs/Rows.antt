@@ -30,7 +30,7 @@ fast_rate_two_frames_calls = map (by 0) (
     [])
 
 pub fast_rate_two_frames : drop 4 (replies (opening standard) fast_rate_two_frames_calls) ≡
-    Send 0 0 0 464 (Mpdus ((0, 100) ∷ (1, 101) ∷ [])) false ∷ []
+    Send 0 0 0 464 (Mpdus ((0, 100) ∷ (1, 101) ∷ [])) false false ∷ []
 unfolding the_machine
 fast_rate_two_frames = refl
 
@@ -47,7 +47,7 @@ pub vht_rate_one_frame : replies (opening standard) vht_rate_one_frame_calls ≡
     Joined ∷
     Set ∷
     Accepted 0 None ∷
-    Send 0 0 0 108 (Mpdus ((0, 100) ∷ [])) false ∷ []
+    Send 0 0 0 108 (Mpdus ((0, 100) ∷ [])) false false ∷ []
 unfolding the_machine
 vht_rate_one_frame = refl
 
@@ -64,7 +64,7 @@ pub he_rate_one_frame : replies (opening standard) he_rate_one_frame_calls ≡
     Joined ∷
     Set ∷
     Accepted 0 None ∷
-    Send 0 0 0 112 (Mpdus ((0, 100) ∷ [])) false ∷ []
+    Send 0 0 0 112 (Mpdus ((0, 100) ∷ [])) false false ∷ []
 unfolding the_machine
 he_rate_one_frame = refl
 
@@ -108,11 +108,11 @@ lost_ack_resends_calls = map (by 0) (
 pub lost_ack_resends : replies (opening standard) lost_ack_resends_calls ≡
     Joined ∷
     Accepted 0 None ∷
-    Send 0 0 0 1976 (Mpdus ((0, 100) ∷ [])) false ∷
+    Send 0 0 0 1976 (Mpdus ((0, 100) ∷ [])) false false ∷
     Released (0 ∷ []) ∷
     Ba 100 1 0 0 0 false ∷
     reply.Done 0 1 0 ∷
-    Send 1 0 0 1976 (Mpdus ((0, 100) ∷ [])) false ∷
+    Send 1 0 0 1976 (Mpdus ((0, 100) ∷ [])) false false ∷
     Released [] ∷
     Ba 100 1 0 0 0 false ∷
     reply.Done 1 0 0 ∷ []
@@ -133,7 +133,7 @@ sequence_wraps_past_4095_calls = map (by 0) (
     [])
 
 pub sequence_wraps_past_4095 : drop 3 (replies (opening standard) sequence_wraps_past_4095_calls) ≡
-    Send 0 0 0 3868 (Mpdus ((0, 4095) ∷ (1, 0) ∷ [])) false ∷
+    Send 0 0 0 3868 (Mpdus ((0, 4095) ∷ (1, 0) ∷ [])) false false ∷
     Released (0 ∷ []) ∷
     Released (1 ∷ []) ∷
     Ba 4095 3 0 0 0 false ∷
@@ -154,7 +154,7 @@ second_of_two_arrives_calls = map (by 0) (
     [])
 
 pub second_of_two_arrives : drop 3 (replies (opening standard) second_of_two_arrives_calls) ≡
-    Send 0 0 0 3868 (Mpdus ((0, 100) ∷ (1, 101) ∷ [])) false ∷
+    Send 0 0 0 3868 (Mpdus ((0, 100) ∷ (1, 101) ∷ [])) false false ∷
     Released [] ∷
     Ba 100 2 0 0 0 false ∷
     reply.Done 1 1 0 ∷ []
@@ -180,11 +180,11 @@ failed_frame_then_request_calls = map (by 0) (
 
 pub failed_frame_then_request : drop 3 (replies
     (opening (record standard { attempts = 1 })) failed_frame_then_request_calls) ≡
-    Send 0 0 0 3868 (Mpdus ((0, 100) ∷ (1, 101) ∷ [])) false ∷
+    Send 0 0 0 3868 (Mpdus ((0, 100) ∷ (1, 101) ∷ [])) false false ∷
     Released [] ∷
     Ba 100 2 0 0 0 false ∷
     reply.Done 1 0 1 ∷
-    Send 1 0 0 80 (Request 102) false ∷
+    Send 1 0 0 80 (Request 102) false false ∷
     Refused Idle ∷
     Released (1 ∷ []) ∷
     Ba 102 0 0 0 0 false ∷
@@ -219,17 +219,17 @@ request_lost_three_times_calls = map (by 0) (
 pub request_lost_three_times : drop 7 (replies
     (opening (record standard { attempts = 1 })) request_lost_three_times_calls) ≡
     Accepted 2 None ∷
-    Send 1 0 0 80 (Request 102) false ∷
+    Send 1 0 0 80 (Request 102) false false ∷
     reply.Done 0 0 0 ∷
-    Send 2 0 0 80 (Request 102) false ∷
+    Send 2 0 0 80 (Request 102) false false ∷
     reply.Done 0 0 0 ∷
-    Send 3 0 0 80 (Request 102) false ∷
+    Send 3 0 0 80 (Request 102) false false ∷
     reply.Done 0 0 0 ∷
-    Send 4 0 0 80 (Request 102) false ∷
+    Send 4 0 0 80 (Request 102) false false ∷
     Released (1 ∷ []) ∷
     Ba 102 0 0 0 0 false ∷
     reply.Done 0 0 0 ∷
-    Send 5 0 0 1976 (Mpdus ((2, 102) ∷ [])) false ∷ []
+    Send 5 0 0 1976 (Mpdus ((2, 102) ∷ [])) false false ∷ []
 unfolding the_machine
 request_lost_three_times = refl
 
@@ -274,7 +274,7 @@ request_moves_receiver_calls = map (by 0) (
 
 pub request_moves_receiver : drop 9 (replies (opening (record standard { agg = 1; attempts = 1 }))
     request_moves_receiver_calls) ≡
-    Send 2 0 0 80 (Request 102) false ∷
+    Send 2 0 0 80 (Request 102) false false ∷
     Released (1 ∷ []) ∷
     Ba 102 0 0 0 0 false ∷
     reply.Done 0 0 0 ∷ []
@@ -321,8 +321,8 @@ airtime_cap_ends_aggregate_calls = map (by 0) (
 pub airtime_cap_ends_aggregate : drop 23 (replies (opening standard) airtime_cap_ends_aggregate_calls) ≡
     Send 0 0 0 3868 (Mpdus ((0, 100) ∷ (1, 101) ∷ (2, 102) ∷ (3, 103) ∷ (4, 104) ∷ (5, 105) ∷ (6, 106)
     ∷ (7, 107) ∷ (8, 108) ∷ (9, 109) ∷ (10, 110) ∷ (11, 111) ∷ (12, 112) ∷ (13, 113) ∷ (14, 114)
-    ∷ (15, 115) ∷ (16, 116) ∷ (17, 117) ∷ (18, 118) ∷ (19, 119) ∷ [])) false ∷
-    Send 1 0 0 276 (Mpdus ((20, 120) ∷ [])) false ∷ []
+    ∷ (15, 115) ∷ (16, 116) ∷ (17, 117) ∷ (18, 118) ∷ (19, 119) ∷ [])) false false ∷
+    Send 1 0 0 276 (Mpdus ((20, 120) ∷ [])) false false ∷ []
 unfolding the_machine
 airtime_cap_ends_aggregate = refl
 
@@ -337,8 +337,8 @@ exponent_zero_ends_aggregate_calls = map (by 0) (
     [])
 
 pub exponent_zero_ends_aggregate : drop 8 (replies (opening standard) exponent_zero_ends_aggregate_calls) ≡
-    Send 0 0 0 1032 (Mpdus ((0, 0) ∷ (1, 1) ∷ (2, 2) ∷ (3, 3) ∷ (4, 4) ∷ [])) false ∷
-    Send 1 0 0 276 (Mpdus ((5, 5) ∷ [])) false ∷ []
+    Send 0 0 0 1032 (Mpdus ((0, 0) ∷ (1, 1) ∷ (2, 2) ∷ (3, 3) ∷ (4, 4) ∷ [])) false false ∷
+    Send 1 0 0 276 (Mpdus ((5, 5) ∷ [])) false false ∷ []
 unfolding the_machine
 exponent_zero_ends_aggregate = refl
 
@@ -352,8 +352,8 @@ two_open_exchanges_are_full_calls = map (by 0) (
 
 pub two_open_exchanges_are_full : drop 4 (replies
     (opening (record standard { agg = 1 })) two_open_exchanges_are_full_calls) ≡
-    Send 0 0 0 1976 (Mpdus ((0, 100) ∷ [])) false ∷
-    Send 1 0 0 1976 (Mpdus ((1, 101) ∷ [])) false ∷
+    Send 0 0 0 1976 (Mpdus ((0, 100) ∷ [])) false false ∷
+    Send 1 0 0 1976 (Mpdus ((1, 101) ∷ [])) false false ∷
     Refused (Full 2) ∷ []
 unfolding the_machine
 two_open_exchanges_are_full = refl
@@ -372,7 +372,7 @@ pub window_of_two_stalls : drop 6 (replies (opening (record standard { agg = 1; 
     window_of_two_stalls_calls) ≡
     Refused Idle ∷
     reply.Done 0 1 0 ∷
-    Send 2 0 0 1976 (Mpdus ((0, 100) ∷ [])) false ∷ []
+    Send 2 0 0 1976 (Mpdus ((0, 100) ∷ [])) false false ∷ []
 unfolding the_machine
 window_of_two_stalls = refl
 
@@ -426,8 +426,8 @@ collision_goes_to_overflow_queue_calls = map (by 0) (
 
 pub collision_goes_to_overflow_queue : drop 3
     (replies (opening (record standard { flows = 1 })) collision_goes_to_overflow_queue_calls) ≡
-    Send 0 0 0 256 (Mpdus ((0, 0) ∷ [])) false ∷
-    Send 1 0 3 256 (Mpdus ((1, 0) ∷ [])) false ∷ []
+    Send 0 0 0 256 (Mpdus ((0, 0) ∷ [])) false false ∷
+    Send 1 0 3 256 (Mpdus ((1, 0) ∷ [])) false false ∷ []
 unfolding the_machine
 collision_goes_to_overflow_queue = refl
 
@@ -451,13 +451,13 @@ codel_drops_two_calls = map (by 0) (
 pub codel_drops_two : drop 12 (replies (opening (record standard { agg = 1; inflight = 8 }))
     codel_drops_two_calls) ≡
     Now 30000 ∷
-    Send 0 0 0 276 (Mpdus ((0, 0) ∷ [])) false ∷
+    Send 0 0 0 276 (Mpdus ((0, 0) ∷ [])) false false ∷
     Now 80000 ∷
-    Send 1 0 0 276 (Mpdus ((1, 1) ∷ [])) false ∷
+    Send 1 0 0 276 (Mpdus ((1, 1) ∷ [])) false false ∷
     Now 130000 ∷
-    Send 2 0 0 276 (Mpdus ((3, 2) ∷ [])) false ∷
+    Send 2 0 0 276 (Mpdus ((3, 2) ∷ [])) false false ∷
     Now 230000 ∷
-    Send 3 0 0 276 (Mpdus ((5, 3) ∷ [])) false ∷
+    Send 3 0 0 276 (Mpdus ((5, 3) ∷ [])) false false ∷
     Reaped 2 (Dropped Codel) ∷
     Reaped 4 (Dropped Codel) ∷
     Refused Nothing ∷ []
@@ -488,23 +488,23 @@ pub dropping_state_is_inherited : drop 7 (replies
     (opening (record standard { flows = 2; limit = 5; agg = 1; inflight = 8 }))
     dropping_state_is_inherited_calls) ≡
     Now 50000 ∷
-    Send 0 0 0 132 (Mpdus ((0, 0) ∷ [])) false ∷
+    Send 0 0 0 132 (Mpdus ((0, 0) ∷ [])) false false ∷
     Now 350000 ∷
-    Send 1 0 0 132 (Mpdus ((2, 1) ∷ [])) false ∷
+    Send 1 0 0 132 (Mpdus ((2, 1) ∷ [])) false false ∷
     Accepted 5 None ∷
     Accepted 6 None ∷
     Accepted 7 None ∷
     Accepted 8 (Some 3) ∷
     Accepted 9 (Some 4) ∷
-    Send 2 0 0 500 (Mpdus ((5, 2) ∷ [])) false ∷
-    Send 3 0 0 500 (Mpdus ((6, 3) ∷ [])) false ∷
-    Send 4 0 0 500 (Mpdus ((7, 4) ∷ [])) false ∷
+    Send 2 0 0 500 (Mpdus ((5, 2) ∷ [])) false false ∷
+    Send 3 0 0 500 (Mpdus ((6, 3) ∷ [])) false false ∷
+    Send 4 0 0 500 (Mpdus ((7, 4) ∷ [])) false false ∷
     Now 599000 ∷
     Accepted 10 None ∷
     Accepted 11 None ∷
     Accepted 12 None ∷
     Now 650000 ∷
-    Send 5 1 6 1976 (Mpdus ((11, 0) ∷ [])) false ∷ []
+    Send 5 1 6 1976 (Mpdus ((11, 0) ∷ [])) false false ∷ []
 unfolding the_machine
 dropping_state_is_inherited = refl
 
@@ -512,7 +512,7 @@ dropping_state_is_inherited = refl
 pub codel_reset_ends_the_dropping_state : drop 24 (replies
     (opening (record standard { flows = 2; limit = 5; agg = 1; inflight = 8; codel_reset = 1 }))
     dropping_state_is_inherited_calls) ≡
-    Send 5 1 6 1976 (Mpdus ((10, 0) ∷ [])) false ∷ []
+    Send 5 1 6 1976 (Mpdus ((10, 0) ∷ [])) false false ∷ []
 unfolding the_machine
 codel_reset_ends_the_dropping_state = refl
 
@@ -536,9 +536,9 @@ pub codel_left_is_after_the_pop : replies (opening (record standard { agg = 1 })
     Accepted 1 None ∷
     Accepted 2 None ∷
     Now 30000 ∷
-    Send 0 0 0 276 (Mpdus ((0, 0) ∷ [])) false ∷
+    Send 0 0 0 276 (Mpdus ((0, 0) ∷ [])) false false ∷
     Now 130000 ∷
-    Send 1 0 0 276 (Mpdus ((1, 1) ∷ [])) false ∷ []
+    Send 1 0 0 276 (Mpdus ((1, 1) ∷ [])) false false ∷ []
 unfolding the_machine
 codel_left_is_after_the_pop = refl
 
@@ -566,9 +566,9 @@ pub sleeper_polls : replies (opening standard) sleeper_polls_calls ≡
     Refused Idle ∷
     reply.Polled Be ∷
     Refused Polled ∷
-    Send 0 0 0 256 (Mpdus ((0, 0) ∷ [])) true ∷
+    Send 0 0 0 256 (Mpdus ((0, 0) ∷ [])) true false ∷
     reply.Polled Be ∷
-    Send 1 0 0 256 (Mpdus ((1, 1) ∷ [])) false ∷
+    Send 1 0 0 256 (Mpdus ((1, 1) ∷ [])) false false ∷
     Refused Nothing ∷ []
 unfolding the_machine
 sleeper_polls = refl
@@ -592,7 +592,7 @@ pub sleeper_second_frame_stays_queued : replies
     Accepted 1 None ∷
     Slept ∷
     reply.Polled Be ∷
-    Send 0 0 0 256 (Mpdus ((0, 0) ∷ [])) true ∷
+    Send 0 0 0 256 (Mpdus ((0, 0) ∷ [])) true false ∷
     Refused (Sleeping 1) ∷ []
 unfolding the_machine
 sleeper_second_frame_stays_queued = refl
@@ -662,8 +662,8 @@ pub debt_of_zero : drop 1 (replies (opening (record standard { debt = 0; agg = 1
     Charged (pos 256) ∷
     Accepted 0 None ∷
     Accepted 1 None ∷
-    Send 0 0 0 256 (Mpdus ((0, 100) ∷ [])) false ∷
-    Send 1 0 0 256 (Mpdus ((1, 101) ∷ [])) false ∷
+    Send 0 0 0 256 (Mpdus ((0, 100) ∷ [])) false false ∷
+    Send 1 0 0 256 (Mpdus ((1, 101) ∷ [])) false false ∷
     reply.Done 0 1 0 ∷
     reply.Done 0 1 0 ∷
     Refused (Debt (negsuc 255)) ∷ []
@@ -714,7 +714,7 @@ pub leave_order_across_the_wrap : replies (opening (record standard { agg = 2 })
     Joined ∷
     Accepted 0 None ∷
     Accepted 1 None ∷
-    Send 0 0 0 3868 (Mpdus ((0, 4095) ∷ (1, 0) ∷ [])) false ∷
+    Send 0 0 0 3868 (Mpdus ((0, 4095) ∷ (1, 0) ∷ [])) false false ∷
     reply.Done 0 2 0 ∷
     reply.Left 2 ∷
     Reaped 0 (Dropped Left) ∷
@@ -743,7 +743,7 @@ pub leave_order_by_tid_then_window_then_queue : replies
     Accepted 1 None ∷
     Accepted 2 None ∷
     Accepted 3 None ∷
-    Send 0 0 0 256 (Mpdus ((1, 0) ∷ [])) false ∷
+    Send 0 0 0 256 (Mpdus ((1, 0) ∷ [])) false false ∷
     reply.Done 0 1 0 ∷
     reply.Left 4 ∷
     Reaped 1 (Dropped Left) ∷
@@ -804,7 +804,7 @@ pub room_of_one : replies (opening (record standard { room = 1 })) room_of_one_c
     Joined ∷
     Accepted 0 None ∷
     Refused (Room 1) ∷
-    Send 0 0 0 1976 (Mpdus ((0, 100) ∷ [])) false ∷
+    Send 0 0 0 1976 (Mpdus ((0, 100) ∷ [])) false false ∷
     Released (0 ∷ []) ∷
     Ba 100 1 0 0 0 false ∷
     reply.Done 1 0 0 ∷
@@ -888,7 +888,7 @@ named_airtime_is_charged_calls = map (by 0) (
 
 pub named_airtime_is_charged : drop 2 (replies (opening (record standard { charge = 5000 }))
     named_airtime_is_charged_calls) ≡
-    Send 0 0 0 256 (Mpdus ((0, 0) ∷ [])) false ∷
+    Send 0 0 0 256 (Mpdus ((0, 0) ∷ [])) false false ∷
     Refused BadAir ∷
     Refused BadAir ∷
     Charged (pos 299) ∷

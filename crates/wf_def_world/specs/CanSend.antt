@@ -6,8 +6,9 @@ use Rattle.std.specs.List.{list_any}
 use Rattle.wf_frame.specs.declared.classes.Class.{Class}
 use Rattle.wf_def_rotation.specs.Rotation.{Rotation, has_key, with_key_listed}
 use Rattle.wf_def_agreement.specs.Session.{waiting_numbers, request_due, has_room}
-use Rattle.wf_def_world.specs.World.{World, Content, Frames, Request, station, session, is_held_back, is_live, rotation, standing, owed, with_rotation}
+use Rattle.wf_def_world.specs.World.{World, Station, Content, Frames, Request, station, session, is_held_back, is_live, rotation, standing, owed, with_rotation}
 use Rattle.wf_frame.specs.Classes.{lower_tid, upper_tid, same_class, all_classes}
+use Rattle.wf_def_world.specs.Service.{is_served}
 use Rattle.wf_def_world.specs.FlowQueues.{frames_queued}
 
 -- whether an exchange sends a BlockAckReq
@@ -50,11 +51,14 @@ can_send_in w s c = can_send w s (lower_tid c) || can_send w s (upper_tid c)
 abbrev pub is_below_aql : World → ℕ → Class → Bool
 is_below_aql w s c = (w.config.aql == 0) || nat_lt (owed s c w.opened) w.config.aql
 
--- whether a station may receive in a class: it is not stopped, it is awake or has a credit for the class, and
--- its airtime in flight is below the limit
+-- whether a station receives in a class now: it is awake, or has a credit for the class or a service period
+abbrev pub is_reachable : Station → Class → Bool
+is_reachable x c = not x.asleep || (has_credit x.credit c || is_served x c)
+
+-- whether a station may receive in a class: it is not stopped, it receives there now, and its airtime in
+-- flight is below the limit
 abbrev pub may_receive : World → ℕ → Class → Bool
-may_receive w s c = not (station w s).stopped
-    && ((not (station w s).asleep || has_credit (station w s).credit c) && is_below_aql w s c)
+may_receive w s c = not (station w s).stopped && (is_reachable (station w s) c && is_below_aql w s c)
 
 -- whether a station is ready in a class, so that a pull of the class may pick it
 abbrev pub is_ready : World → Class → ℕ → Bool

@@ -20,9 +20,10 @@ use Rattle.wf_def_rotation.specs.Rotation.{in_order, need_of, Picked, pick}
 use Rattle.wf_def_agreement.specs.Session.{Session, Slot, State, End, is_acknowledged, slot, waiting_numbers, next_number, start_of, request_due, with_state, with_number_given, after_end, is_failed}
 use Rattle.wf_def_agreement.specs.Receiver.{Receiver, with_arrived, with_start, Score, shows}
 use Rattle.wf_def_world.specs.World.{World, Bounds, Station, Share, Mpdu, Content, Frames, Request, Exchange, station, session, share, standing, quantum, rotation, frame, len_of, is_wide, is_offloaded, is_agreed, is_plain, on_station, on_session, on_receiver, on_share, with_rotation, with_frame_finished}
-use Rattle.wf_frame.specs.Classes.{lower_tid, upper_tid}
+use Rattle.wf_frame.specs.Classes.{lower_tid, upper_tid, class_of}
 use Rattle.wf_def_world.specs.FlowQueues.{frames_queued, Taken, taken_for_tid}
-use Rattle.wf_def_world.specs.CanSend.{can_send, can_give, has_waiting, is_ready, is_request}
+use Rattle.wf_def_world.specs.Service.{is_delivered, is_polled, is_served, is_told, limit_left, service_limit, is_reached, service_after_sent}
+use Rattle.wf_def_world.specs.CanSend.{can_send, can_give, has_waiting, has_credit, is_ready, is_request}
 
 -- ---- the station that is picked
 
@@ -90,18 +91,24 @@ limited (Some limit) n = min limit n
 -- the bounds of a pull of a class with these limits: it may send one frame whatever they are
 abbrev pub bounds_of : Config → Class → Limits → Bounds
 bounds_of config c limits = record {
+  class = c;
   frames = max 1 (limited limits.frames config.agg);
   air = limited limits.air (cap_of config c);
 }
 
--- whether one exchange to a station sends at most one frame: the station sleeps, and asks for one by a poll,
--- or its rate has no aggregates
-abbrev pub takes_one : Station → Bool
-takes_one x = x.asleep || is_single x.rate
+-- whether one exchange of a class to a station sends at most one frame: the station sleeps, and asks for one
+-- by a poll, or its rate has no aggregates
+abbrev pub takes_one : Station → Class → Bool
+takes_one x c = (x.asleep && not (is_served x c)) || is_single x.rate
 
--- the most frames of an aggregate: those of the pull's bounds, but one for a station that takes one
+-- the most frames of an exchange to a station within these bounds: one if it takes one, and in a service
+-- period those that are left
+abbrev pub frames_allowed : Station → Bounds → ℕ
+frames_allowed x b = if takes_one x b.class then 1 else limited (service_limit x b.class) b.frames
+
+-- the most frames of an aggregate, within the bounds of the pull
 abbrev pub most_frames : World → ℕ → ℕ
-most_frames w s = if takes_one (station w s) then 1 else w.bounds.frames
+most_frames w s = frames_allowed (station w s) w.bounds
 
 -- the lengths of the bodies of an aggregate, each with its octets of encryption
 abbrev pub lens_of : ℕ → List Mpdu → List ℕ
@@ -209,18 +216,53 @@ unfoldable pub prepared_exchange : World → ℕ → ℕ → Prepared
 prepared_exchange w s t =
     if request_due (session w s t) then prepared_request w s t else prepared_data s t (aggregate_of w s t)
 
--- whether a number waits or a frame is queued on some TID of a station
+-- whether a number waits or a frame is queued on some TID of a station, of the classes that pass a test
+abbrev pub has_more_in : World → ℕ → (Class → Bool) → Bool
+has_more_in w s p =
+    list_any (λ t. p (class_of t) && (has_waiting w s t || nat_lt 0 (frames_queued w s t))) (upto 8)
+
+-- the same for the classes of a poll, which the TIM announces
 abbrev pub has_more : World → ℕ → Bool
-has_more w s = list_any (λ t. has_waiting w s t || nat_lt 0 (frames_queued w s t)) (upto 8)
+has_more w s = has_more_in w s (is_polled (station w s))
 
--- the station's credit is spent
-unfoldable pub without_credit : World → ℕ → World
-without_credit w s = on_station w s (λ x. record x { credit = None })
+-- the subframes of an exchange, of which a request has none
+abbrev pub mpdus_of : Content → List Mpdu
+mpdus_of (Frames mpdus) = mpdus
+mpdus_of (Request start) = []
 
--- the exchange that sends a prepared part. `more` is the More Data bit (IEEE 802.11-2012, 8.2.4.1.8):
--- only data to a sleeping station can have it.
+-- whether an exchange of class c with this content is the last of a service period: nothing is left of it, or
+-- nothing waits in the delivery-enabled classes. A request is never the last, since it has no EOSP bit.
+abbrev pub is_last : World → ℕ → Class → Content → Bool
+is_last w s c content =
+    let x : Station = station w s in
+    is_served x c && (not (is_request content)
+    && (is_reached (limit_left x.service) (length (mpdus_of content))
+    || not (has_more_in w s (is_delivered x))))
+
+-- the credit of a station after an exchange to it: it is spent, unless it is for another class than that of
+-- an exchange of a service period
+abbrev pub credit_after : Class → Station → Option Class
+credit_after c x = if is_served x c && not (has_credit x.credit c) then x.credit else None
+
+-- the open service period of a station after an exchange to it
+abbrev pub service_spent : Exchange → Station → Option ℕ
+service_spent x y =
+    if is_served y x.class then service_after_sent x.eosp (length (mpdus_of x.content)) y.service
+    else y.service
+
+-- a station after an exchange to it, which spends its credit or frames of its service period
+abbrev pub spent : Exchange → Station → Station
+spent x y = record y { credit = credit_after x.class y; service = service_spent x y }
+
+-- the exchange spends what allowed it
+unfoldable pub with_spent : World → Exchange → World
+with_spent w x = on_station w x.station (spent x)
+
+-- the exchange that sends a prepared part. `more` is the More Data bit (IEEE 802.11-2012, 8.2.4.1.8), and
+-- `eosp` the EOSP bit (8.2.4.5.3): only data to a sleeping station can have them.
 abbrev pub exchange_of : ℕ → ℕ → Class → Prepared → Exchange
 exchange_of s t c p =
+    let x : Station = station p.world s in
     record {
       number = p.world.exchanges;
       station = s;
@@ -234,7 +276,8 @@ exchange_of s t c p =
       answer = None;
       unsent = [];
       given_up = [];
-      more = (station p.world s).asleep && (not (is_request p.content) && has_more p.world s);
+      more = x.asleep && (not (is_request p.content) && has_more_in p.world s (is_told x c));
+      eosp = is_last p.world s c p.content;
     }
 
 -- the world in which the exchange is open
@@ -402,11 +445,6 @@ unfoldable pub after_done : World → Exchange → Bool → Content → World
 after_done w x heard (Frames mpdus) =
     caught_up_if_plain (with_all_settled w x.station x.tid (end_of w x heard) mpdus) x.station x.tid
 after_done w x heard (Request start) = on_session w x.station x.tid (with_heard_start heard start)
-
--- the subframes of an exchange, of which a request has none
-abbrev pub mpdus_of : Content → List Mpdu
-mpdus_of (Frames mpdus) = mpdus
-mpdus_of (Request start) = []
 
 -- how many numbers of an exchange have a state that passes a test
 abbrev pub count_in : World → Exchange → (State → Bool) → ℕ

@@ -1,6 +1,7 @@
 -- Lists the modules of specs/ of wf_def_world.
 pub mod Group
 pub mod World
+pub mod Service
 pub mod FlowQueues
 pub mod CanSend
 pub mod Rates

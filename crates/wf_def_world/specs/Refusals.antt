@@ -5,22 +5,25 @@ use Rattle.std.specs.List.{list_any}
 use Rattle.wf_frame.specs.Settings.{is_bad_air}
 use Rattle.wf_frame.specs.declared.classes.Class.{Class}
 use Rattle.wf_frame.specs.declared.notes.Ask.{Ask}
-use Rattle.wf_frame.specs.declared.notes.Ask.TheVariants.{Join, Leave, Rate, Tick, Pull, Arrive, Answer, Done, Sleep, Wake, Poll, Rx, Reap, Ampdu, Stop, Start, Unsent, GiveUp, Flush, Offload, Weight, Hold, Begin, Free, Cease, Group}
+use Rattle.wf_frame.specs.declared.notes.Ask.TheVariants.{Join, Leave, Rate, Tick, Pull, Arrive, Answer, Done, Sleep, Wake, Poll, Rx, Reap, Ampdu, Stop, Start, Unsent, GiveUp, Flush, Offload, Weight, Hold, Begin, Free, Cease, Group, Service}
 use Rattle.wf_frame.specs.declared.notes.Ask.TheVariants as call
 use Rattle.wf_frame.specs.declared.notes.GroupAsk.{GroupAsk}
 use Rattle.wf_frame.specs.declared.notes.GroupAsk.TheVariants as group
+use Rattle.wf_frame.specs.declared.notes.ServiceAsk.{ServiceAsk}
+use Rattle.wf_frame.specs.declared.notes.ServiceAsk.TheVariants as service
 use Rattle.wf_frame.specs.declared.notes.Note.{Note}
 use Rattle.wf_frame.specs.declared.notes.Note.TheVariants.{Enqueue, Asked}
 use Rattle.wf_frame.specs.declared.notes.Refusal.{Refusal}
-use Rattle.wf_frame.specs.declared.notes.Refusal.TheVariants.{BadStation, BadWindow, BadStart, BadExponent, BadRate, BadTick, BadTid, BadAir, BadIndex, Live, NoStation, NoExchange, NoAnswer, Open, Room, Sleeping, Full, Idle, Answered, Arrived, Nothing, Asleep, Awake, Polled, Debt, BadWeight, Ahead, BadAmpdu, Stopped, Started, Marked, Offloaded, Agreed, Held, NotHeld, NotAgreed, Waits, Legacy, Buffered, Flying}
+use Rattle.wf_frame.specs.declared.notes.Refusal.TheVariants.{BadStation, BadWindow, BadStart, BadExponent, BadRate, BadTick, BadTid, BadAir, BadIndex, Live, NoStation, NoExchange, NoAnswer, Open, Room, Sleeping, Full, Idle, Answered, Arrived, Nothing, Asleep, Awake, Polled, Debt, BadWeight, Ahead, BadAmpdu, Stopped, Started, Marked, Offloaded, Agreed, Held, NotHeld, NotAgreed, Waits, Legacy, Buffered, Flying, BadClasses}
 use Rattle.wf_def_lists.specs.Table.{has, upto}
 use Rattle.wf_def_lists.specs.Bounds.{greatest_window, greatest_start, greatest_exponent, greatest_weight, greatest_tid, greatest_tick, greatest_air, least_ampdu, greatest_ampdu, deepest_deficit}
 use Rattle.wf_def_air.specs.Airtime.{is_single}
 use Rattle.wf_def_agreement.specs.Session.{waiting_numbers}
 use Rattle.wf_def_world.specs.Rates.{rate_asked, is_rate_with}
 use Rattle.wf_def_world.specs.Group.{may_go}
+use Rattle.wf_def_world.specs.Service.{is_delivered, is_polled}
 use Rattle.wf_def_world.specs.World.{World, Exchange, station, session, is_offloaded, is_agreed, is_held_back, is_live, inside, is_any_asleep, share, exchange, owed_by_all}
-use Rattle.wf_frame.specs.Classes.{same_class, lower_tid, upper_tid, class_of}
+use Rattle.wf_frame.specs.Classes.{same_class, lower_tid, upper_tid, class_of, greatest_classes}
 use Rattle.wf_def_world.specs.FlowQueues.{frames_queued}
 use Rattle.wf_def_world.specs.CanSend.{can_send, can_send_in}
 use Rattle.wf_def_world.specs.Exchanges.{picked_station, transmissions, is_marked}
@@ -71,9 +74,9 @@ open_of_class w c = count_by (λ x. same_class x.class c) w.opened
 abbrev pub is_at_aql_total : World → Bool
 is_at_aql_total w = nat_lt 0 w.config.aql_total && nat_le w.config.aql_total (owed_by_all w.opened)
 
--- whether some TID of a station can send
-abbrev pub can_send_any : World → ℕ → Bool
-can_send_any w s = list_any (can_send w s) (upto (1 + greatest_tid))
+-- whether some TID of a station can send, of the classes that pass a test
+abbrev pub can_send_any : World → ℕ → (Class → Bool) → Bool
+can_send_any w s p = list_any (λ t. p (class_of t) && can_send w s t) (upto (1 + greatest_tid))
 
 -- whether a credit blocks a poll: with the setting `credits`, only one in whose class the station can send
 abbrev pub is_live_credit : World → ℕ → Option Class → Bool
@@ -101,6 +104,19 @@ group_refusals w group.Beacon = []
 group_refusals w group.Pull = (
     (is_some w.group.flying, Flying) ∷ (not (may_go (is_any_asleep w) w.group), Idle) ∷ [])
 group_refusals w group.Done = ((is_none w.group.flying, Nothing) ∷ [])
+
+-- the rows of a call about the service periods of a station, in order
+abbrev pub service_refusals : World → ServiceAsk → List (Bool × Refusal)
+service_refusals w (service.Set s classes most) = (
+    (is_bad_station w s, BadStation) ∷ (nat_lt greatest_classes classes, BadClasses) ∷
+    (not (is_live w s), NoStation) ∷ ((station w s).asleep, Asleep) ∷ [])
+service_refusals w (service.Trigger s) = (
+    (is_bad_station w s, BadStation) ∷ (not (is_live w s), NoStation) ∷
+    (not (station w s).asleep, Awake) ∷ (is_some (station w s).service, Polled) ∷
+    (not (can_send_any w s (is_delivered (station w s))), Nothing) ∷ [])
+service_refusals w (service.End s) = (
+    (is_bad_station w s, BadStation) ∷ (not (is_live w s), NoStation) ∷
+    (is_none (station w s).service, Nothing) ∷ [])
 
 -- the rows of a call that brings no frame for a station, in order
 abbrev pub refusals_of : World → Ask → List (Bool × Refusal)
@@ -168,7 +184,7 @@ refusals_of w (Wake s) = (
 refusals_of w (Poll s) = (
     (is_bad_station w s, BadStation) ∷ (not (is_live w s), NoStation) ∷
     (not (station w s).asleep, Awake) ∷
-    (has_live_credit w s, Polled) ∷ (not (can_send_any w s), Nothing) ∷ [])
+    (has_live_credit w s, Polled) ∷ (not (can_send_any w s (is_polled (station w s))), Nothing) ∷ [])
 refusals_of w (Rx s c air) = (
     (is_bad_station w s, BadStation) ∷ (not (is_within 1 greatest_air air), BadAir)
     ∷ (not (is_live w s), NoStation) ∷ (
@@ -198,6 +214,7 @@ refusals_of w (GiveUp e i) = (
 refusals_of w (Flush s t) = (
     (is_bad_station w s, BadStation) ∷ (nat_lt greatest_tid t, BadTid) ∷ (not (is_live w s), NoStation) ∷ [])
 refusals_of w (Group ask) = group_refusals w ask
+refusals_of w (Service ask) = service_refusals w ask
 
 -- the rows of a call, in order
 abbrev pub refusals : World → Note → List (Bool × Refusal)

@@ -1,12 +1,16 @@
 -- Defines one call of the machine: the world that it leaves, and its reply.
-use Rattle.std.specs.Prelude.{ℕ, ◌+◌, ◌-◌, ◌*◌, ◌%◌, ◌==◌, min, ℤ, pos, ◌+ℤ◌, ◌-ℤ◌, int_le, Bool, true, false, List, [], ◌∷◌, ◌++◌, Option, Some, None, if◌then◌else◌, length, find, unwrap_or}
+use Rattle.std.specs.Prelude.{ℕ, ◌+◌, ◌-◌, ◌*◌, ◌%◌, ◌==◌, min, ℤ, pos, ◌+ℤ◌, ◌-ℤ◌, int_le, Bool, true, false, ◌&&◌, List, [], ◌∷◌, ◌++◌, Option, Some, None, if◌then◌else◌, length, find, unwrap_or}
 use Rattle.wf_frame.specs.declared.classes.Class.{Class}
 use Rattle.wf_frame.specs.declared.classes.Class.TheVariants.{Bk, Be, Vi, Vo}
 use Rattle.wf_frame.specs.declared.classes.Cause.TheVariants.{Left, Flushed, Ended}
 use Rattle.wf_frame.specs.declared.classes.Fate.TheVariants.{Held, Dropped}
-use Rattle.wf_frame.specs.declared.notes.Ask.TheVariants.{Join, Leave, Rate, Tick, Pull, Arrive, Answer, Done, Sleep, Wake, Poll, Rx, Reap, Ampdu, Stop, Start, Unsent, GiveUp, Flush, Offload, Weight, Hold, Begin, Free, Cease, Group}
+use Rattle.wf_frame.specs.declared.notes.Ask.TheVariants.{Join, Leave, Rate, Tick, Pull, Arrive, Answer, Done, Sleep, Wake, Poll, Rx, Reap, Ampdu, Stop, Start, Unsent, GiveUp, Flush, Offload, Weight, Hold, Begin, Free, Cease, Group, Service}
 use Rattle.wf_frame.specs.declared.notes.Ask.TheVariants as call
 use Rattle.wf_frame.specs.declared.notes.GroupAsk.{GroupAsk}
+use Rattle.wf_frame.specs.declared.notes.ServiceAsk.{ServiceAsk}
+use Rattle.wf_frame.specs.declared.notes.ServiceAsk.TheVariants as service
+use Rattle.wf_frame.specs.declared.notes.ServiceReply.{ServiceReply}
+use Rattle.wf_frame.specs.declared.notes.ServiceReply.TheVariants as answer
 use Rattle.wf_frame.specs.declared.notes.Limits.{Limits}
 use Rattle.wf_frame.specs.declared.notes.AskedRate.{AskedRate}
 use Rattle.wf_frame.specs.declared.notes.Note.{Note}
@@ -26,11 +30,12 @@ use Rattle.wf_def_agreement.specs.Receiver.{Receiver, Score, score, bitmap_word,
 use Rattle.wf_def_world.specs.Rates.{rate_asked}
 use Rattle.wf_frame.specs.declared.settings.Config.{Config}
 use Rattle.wf_def_world.specs.Group.{group_after, group_answer}
-use Rattle.wf_def_world.specs.World.{World, Mode, Agreed, Station, Share, Exchange, new_share, quantum, pending_air, new_tid, session, receiver, share, tid_of, rotation, frame, accepted_count, is_wide, is_any_asleep, exchange, with_bounds, with_station, on_station, on_share, on_session, on_receiver, with_rotation, with_mode, with_queues, with_exchange, without_exchange, with_frames_finished}
+use Rattle.wf_def_world.specs.Service.{is_delivered, is_polled, station_served, after_service}
+use Rattle.wf_def_world.specs.World.{World, Mode, Agreed, Station, Share, Exchange, new_share, quantum, pending_air, new_tid, station, session, receiver, share, tid_of, rotation, frame, accepted_count, is_wide, is_any_asleep, exchange, with_bounds, with_station, on_station, on_share, on_session, on_receiver, with_rotation, with_mode, with_queues, with_exchange, without_exchange, with_frames_finished}
 use Rattle.wf_frame.specs.Classes.{all_classes}
 use Rattle.wf_def_world.specs.FlowQueues.{dropped_for_limit, after_limit, queue_for, after_put_in, after_queues_left, after_queues_flushed}
 use Rattle.wf_def_world.specs.CanSend.{can_send_in, with_listings_of}
-use Rattle.wf_def_world.specs.Exchanges.{picked_station, after_pick, bounds_of, sending_tid, after_tid_turn, Prepared, prepared_exchange, exchange_of, with_exchange_opened, without_credit, part_of, after_arrival, ids_of, after_charge, after_done, caught_up, caught_up_if_plain, longest_computed, count_in}
+use Rattle.wf_def_world.specs.Exchanges.{picked_station, after_pick, bounds_of, sending_tid, after_tid_turn, Prepared, prepared_exchange, exchange_of, with_exchange_opened, with_spent, part_of, after_arrival, ids_of, after_charge, after_done, caught_up, caught_up_if_plain, longest_computed, count_in}
 use Rattle.wf_def_world.specs.Refusals.{refusal}
 
 -- the outcome of a call: the world after it, and its reply
@@ -62,6 +67,9 @@ new_station config mode window start exponent weight offloaded =
       stopped = false;
       asleep = false;
       credit = None;
+      delivery = 0;
+      most = 0;
+      service = None;
       shares = share ∷ share ∷ share ∷ share ∷ [];
       tids = tid ∷ tid ∷ tid ∷ tid ∷ tid ∷ tid ∷ tid ∷ tid ∷ [];
     }
@@ -267,13 +275,13 @@ enqueue_outcome w s t flow len =
       reply = Accepted (accepted_count w) (dropped_for_limit w);
     }
 
--- a prepared exchange is sent: it opens, and the station's credit is spent
+-- a prepared exchange is sent: it opens, and spends the station's credit or frames of its service period
 unfoldable pub send_outcome : ℕ → ℕ → Class → Prepared → Outcome
 send_outcome s t c p =
     let x : Exchange = exchange_of s t c p in
     record {
-      world = without_credit (with_exchange_opened p.world x) s;
-      reply = Send x.number s t x.charge (part_of x.batch x.plain x.content) x.more;
+      world = with_spent (with_exchange_opened p.world x) x;
+      reply = Send x.number s t x.charge (part_of x.batch x.plain x.content) x.more x.eosp;
     }
 
 -- the outcome of a pull with this winner
@@ -358,14 +366,20 @@ outcome_where_open w (Some x) f = f x
 unfoldable pub sleep_outcome : World → ℕ → Outcome
 sleep_outcome w s = record { world = on_station w s (λ x. record x { asleep = true }); reply = Slept }
 
--- Wake: the station is awake and has no credit
+-- Wake: the station is awake, and has no credit and no service period
 unfoldable pub wake_outcome : World → ℕ → Outcome
-wake_outcome w s =
-    record { world = on_station w s (λ x. record x { asleep = false; credit = None }); reply = Woken }
+wake_outcome w s = record {
+  world = on_station w s (λ x. record x { asleep = false; credit = None; service = None });
+  reply = Woken;
+}
 
--- the first of Vo, Vi and Be in which the station can send, otherwise Bk
+-- the first of Vo, Vi and Be that passes a test and in which the station can send, otherwise Bk
+abbrev pub first_to_send : World → ℕ → (Class → Bool) → Class
+first_to_send w s p = unwrap_or (find (λ c. p c && can_send_in w s c) (Vo ∷ Vi ∷ Be ∷ [])) Bk
+
+-- the class of the credit that a poll gives
 abbrev pub class_to_send : World → ℕ → Class
-class_to_send w s = unwrap_or (find (can_send_in w s) (Vo ∷ Vi ∷ Be ∷ [])) Bk
+class_to_send w s = first_to_send w s (is_polled (station w s))
 
 -- Poll: the sleeping station gets a credit for one exchange (PS-Poll, IEEE 802.11-2012, 10.2.1.6)
 unfoldable pub poll_outcome : World → ℕ → Outcome
@@ -386,6 +400,22 @@ unfoldable pub reap_outcome : World → List ℕ → Outcome
 reap_outcome w [] = unreached w
 reap_outcome w (id ∷ ids) =
     record { world = record w { finished = ids }; reply = Reaped id (frame w id).fate }
+
+-- ---- service periods
+
+-- the answer to a call about service periods: to a trigger, the most urgent delivery-enabled class that can
+-- send
+abbrev pub service_answer : World → ServiceAsk → ServiceReply
+service_answer w (service.Set s classes most) = answer.Set
+service_answer w (service.Trigger s) = answer.Triggered (first_to_send w s (is_delivered (station w s)))
+service_answer w (service.End s) = answer.Ended
+
+-- A call about service periods: it changes nothing but the service of its station.
+abbrev pub service_outcome : World → ServiceAsk → Outcome
+service_outcome w ask = record {
+  world = on_station w (station_served ask) (after_service ask);
+  reply = reply.Service (service_answer w ask);
+}
 
 -- ---- group frames
 
@@ -430,6 +460,7 @@ outcome_of w (Asked (Unsent e i)) = outcome_where_open w (exchange w e) (λ x. u
 outcome_of w (Asked (GiveUp e i)) = outcome_where_open w (exchange w e) (λ x. give_up_outcome w x i)
 outcome_of w (Asked (Flush s t)) = flush_outcome w s t
 outcome_of w (Asked (Group ask)) = group_outcome w ask
+outcome_of w (Asked (Service ask)) = service_outcome w ask
 
 -- the station of an exchange, if the exchange is open
 abbrev pub station_of : Option Exchange → Option ℕ
@@ -467,6 +498,7 @@ concerned_station w (Asked (Begin s t window)) = Some s
 concerned_station w (Asked (Free s t)) = Some s
 concerned_station w (Asked (Cease s t)) = Some s
 concerned_station w (Asked (Group ask)) = None
+concerned_station w (Asked (Service ask)) = Some (station_served ask)
 
 -- The world after a refusal. Only Idle without the setting `pending` changes it: the pick found no ready
 -- station, gave the listed ones their quanta, and emptied the lists of the class.

@@ -12,6 +12,8 @@ use Rattle.wf_frame.specs.declared.notes.Part.{Part}
 use Rattle.wf_frame.specs.declared.notes.Part.TheVariants.{Mpdus, Batch, Plain, Request}
 use Rattle.wf_frame.specs.declared.notes.GroupReply.{GroupReply}
 use Rattle.wf_frame.specs.declared.notes.GroupReply.TheVariants as group
+use Rattle.wf_frame.specs.declared.notes.ServiceReply.{ServiceReply}
+use Rattle.wf_frame.specs.declared.notes.ServiceReply.TheVariants as service
 use Rattle.wf_frame.specs.declared.notes.Refusal.{Refusal}
 use Rattle.wf_frame.specs.declared.notes.ReplyNote.{ReplyNote}
 use Rattle.wf_frame.specs.declared.notes.ReplyNote.TheVariants.{Joined, Set, Now, Accepted, Send, Released, Ba, Done, Slept, Woken, Polled, Charged, Reaped, Stopped, Started, Marked, Ack, Begun, Freed, Ceased, Refused}
@@ -68,6 +70,16 @@ bit_word bit = if bit then codes "1" else codes "0"
 abbrev pub more_words : Bool → List (List ℕ)
 more_words more = if more then codes "more" ∷ [] else []
 
+-- the word for the EOSP bit, if it is set
+abbrev pub eosp_words : Bool → List (List ℕ)
+eosp_words eosp = if eosp then codes "eosp" ∷ [] else []
+
+-- the words of the answer to a call about service periods
+abbrev pub service_words : ServiceReply → List (List ℕ)
+service_words service.Set = codes "set" ∷ []
+service_words (service.Triggered class) = codes "triggered" ∷ class_word class ∷ []
+service_words service.Ended = codes "ended" ∷ []
+
 -- the words of the answer to a call about group frames
 abbrev pub group_words : GroupReply → List (List ℕ)
 group_words (group.Queued id) = codes "queued" ∷ decimal id ∷ []
@@ -83,10 +95,10 @@ reply_words (reply.Left dropped) = codes "left" ∷ decimal dropped ∷ []
 reply_words Set = codes "set" ∷ []
 reply_words (Now now) = codes "now" ∷ decimal now ∷ []
 reply_words (Accepted id dropped) = codes "accepted" ∷ decimal id ∷ dropped_words dropped
-reply_words (Send e s t air part more) =
+reply_words (Send e s t air part more eosp) =
     codes "send" ∷ decimal e ∷ codes "sta" ∷ decimal s ∷ codes "tid" ∷ decimal t ∷ codes "air"
     ∷ decimal air ∷ []
-    ++ part_words part ++ (if more then codes "more" ∷ [] else [])
+    ++ part_words part ++ more_words more ++ eosp_words eosp
 reply_words (Released ids) = codes "released" ∷ map decimal ids
 reply_words (Ba start b0 b1 b2 b3 wide) = codes "ba" ∷ decimal start ∷ score_digits b0 b1 b2 b3 wide ∷ []
 reply_words (Done acked waiting failed) =
@@ -107,6 +119,7 @@ reply_words Begun = codes "begun" ∷ []
 reply_words Freed = codes "freed" ∷ []
 reply_words (Ceased dropped ids) = codes "ceased" ∷ decimal dropped ∷ map decimal ids
 reply_words (reply.Group answer) = group_words answer
+reply_words (reply.Service answer) = service_words answer
 reply_words (Refused refusal) = codes "refused" ∷ refusal_words refusal
 
 -- the answer line of a reply
@@ -168,10 +181,6 @@ group_line w =
     if w.config.buffered == 0 then []
     else line (codes "group" ∷ decimal w.group.accepted ∷ codes "sent" ∷ decimal w.group.sent ∷
     codes "held" ∷ decimal (held_count w.group) ∷ codes "air" ∷ decimal w.group.air ∷ [])
-
--- the TIM element with these AIDs of a path without group frames: each of its beacons is a DTIM beacon
-abbrev pub traffic_map : List ℕ → List ℕ
-traffic_map aids = tim_element 0 1 aids
 
 -- the TIM element with these AIDs and what the latest beacon said: its DTIM count and period, and whether it
 -- announced group frames

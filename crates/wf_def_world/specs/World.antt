@@ -5,6 +5,7 @@ use Rattle.std.specs.Prelude.{ℕ, ◌+◌, ◌*◌, ◌==◌, nat_lt, ℤ, pos,
 use Rattle.std.specs.List.{list_any}
 use Rattle.wf_frame.specs.declared.settings.Config.{Config}
 use Rattle.wf_frame.specs.declared.classes.Class.{Class}
+use Rattle.wf_frame.specs.declared.classes.Class.TheVariants.{Bk}
 use Rattle.wf_frame.specs.Classes.{class_number, same_class}
 use Rattle.wf_frame.specs.declared.classes.Fate.{Fate}
 use Rattle.wf_frame.specs.declared.classes.Fate.TheVariants.{Held}
@@ -82,6 +83,9 @@ pub record Station : Type 0 where
   pub stopped : Bool  -- whether no pull picks it
   pub asleep : Bool
   pub credit : Option Class  -- the class in which a sleeping station may receive one exchange
+  pub delivery : ℕ  -- the set of its delivery-enabled classes, as a number: 15 has all four
+  pub most : ℕ  -- the most frames of a service period, which has no limit if it is 0
+  pub service : Option ℕ  -- how many frames are left of its open service period, if one is; 0 for no limit
   pub shares : List Share  -- by class number
   pub tids : List Tid  -- by TID
 
@@ -105,6 +109,9 @@ no_station = record {
   stopped = false;
   asleep = false;
   credit = None;
+  delivery = 0;
+  most = 0;
+  service = None;
   shares = [];
   tids = [];
 }
@@ -146,6 +153,7 @@ pub record Exchange : Type 0 where
   pub unsent : List ℕ  -- the indices of the transmissions that never went on the air, rising
   pub given_up : List ℕ  -- the indices of those that the device will not try again, rising
   pub more : Bool  -- the More Data bit
+  pub eosp : Bool  -- whether it is the last of a service period: the EOSP bit of its last frame
 
 -- an accepted frame: the call that brought it, and its fate
 pub record Frame : Type 0 where
@@ -156,15 +164,16 @@ pub record Frame : Type 0 where
 abbrev pub no_frame : Frame
 no_frame = record { note = Asked Reap; fate = Held }
 
--- how much the exchange of a pull may send: the most frames, and the greatest data time of an aggregate in
--- microseconds
+-- how much the exchange of a pull may send: its class, the most frames, and the greatest data time of an
+-- aggregate in microseconds
 pub record Bounds : Type 0 where
+  pub class : Class
   pub frames : ℕ
   pub air : ℕ
 
 -- the bounds before the first pull
 abbrev pub no_bounds : Bounds
-no_bounds = record { frames = 0; air = 0 }
+no_bounds = record { class = Bk; frames = 0; air = 0 }
 
 -- the state of the machine
 pub record World : Type 0 where

@@ -2,7 +2,7 @@
 //! them:
 //!
 //! - World is the state of the machine: stations, queues, rotations, open exchanges and accepted
-//!   frames; Group has the group frames and the beacons, with their calls;
+//!   frames; Group has the group frames and the beacons, and Service the service periods, with their calls;
 //! - FlowQueues, CanSend, Rates and Exchanges say how frames are queued, picked, sent and acknowledged;
 //! - Refusals defines when a call is refused, Step the effect of one call, and Run that of a history;
 //! - Text is the text that a run writes, and Stretches compares the airtime of two stations.
