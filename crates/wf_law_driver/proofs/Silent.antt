@@ -2,7 +2,7 @@
 use Rattle.std.proofs.Common.{◌≡◌, refl, ap, sym, ◌∙◌, subst, ℕ, ◌==◌, Bool, true, false, not, List, [], ◌∷◌, Option, Some, None, IfSome}
 use Rattle.wf_frame.specs.declared.settings.Config.{Config}
 use Rattle.wf_frame.specs.declared.classes.Class.{Class}
-use Rattle.wf_frame.specs.declared.notes.Ask.TheVariants.{Join, Leave, Rate, Tick, Pull, Arrive, Answer, Done, Sleep, Wake, Poll, Rx, Reap, Ampdu, Stop, Start, Unsent, GiveUp, Flush, Offload, Weight, Plain, Hold, Begin, Free, Cease, Group}
+use Rattle.wf_frame.specs.declared.notes.Ask.TheVariants.{Join, Leave, Rate, Tick, Pull, Arrive, Answer, Done, Sleep, Wake, Poll, Rx, Reap, Ampdu, Stop, Start, Unsent, GiveUp, Flush, Offload, Weight, Plain, Hold, Begin, Free, Cease, Group, Service}
 use Rattle.wf_frame.specs.declared.notes.Limits.{Limits}
 use Rattle.wf_frame.specs.declared.notes.Note.{Note}
 use Rattle.wf_frame.specs.declared.notes.Note.TheVariants.{Enqueue, Asked}
@@ -15,6 +15,7 @@ use Rattle.wf_def_agreement.specs.Session.{start_of}
 use Rattle.wf_law_rules.proofs.Lemmas.Numbers.{on_if}
 use Rattle.wf_law_rules.proofs.Lemmas.Tables.{each_put}
 use Rattle.wf_def_world.specs.World.{World, Mode, Station, Tid, Exchange, new_tid, tid_of, with_mode, on_tid, session, receiver, rotation, is_live, exchange, with_station, with_exchange, without_exchange, opening}
+use Rattle.wf_def_world.specs.Service.{station_served}
 use Rattle.wf_def_world.specs.CanSend.{is_ready}
 use Rattle.wf_def_world.specs.Exchanges.{station_need, picked_station, after_tid_turn, sending_tid, Prepared, exchange_of, with_exchange_opened}
 use Rattle.wf_def_world.specs.Refusals.{refusal}
@@ -104,7 +105,7 @@ silence_gone w s = then_silence w _ _ (silence_same w _
 marks_sent : (s t : ℕ) (c : Class) (w : World) (p : Prepared) → p.world.opened ≡ w.opened →
     Each IsUnmarked w.opened → Each IsUnmarked (send_outcome s t c p).world.opened
 unfolding send_outcome with_exchange_opened
-marks_sent s t c w p e m = subst (Each IsUnmarked) (sym (same_spent _ s).opened)
+marks_sent s t c w p e m = subst (Each IsUnmarked) (sym (same_spent _ (exchange_of s t c p)).opened)
     (each_append IsUnmarked p.world.opened (exchange_of s t c p) (subst (Each IsUnmarked) (sym e) m)
     (record { arrived = refl; answer = refl }))
 
@@ -253,6 +254,8 @@ silence_done (Asked (GiveUp e n)) w k i = silence_open (exchange w e) w (λ x. g
     (λ x found. silence_marked w e x x.unsent _ found)
 silence_done (Asked (Flush s t)) w k i = silence_flushed w s t
 silence_done (Asked (Group ask)) w k i = record { arrived = λ i j n h. h; marks = λ h. h }
+silence_done (Asked (Service ask)) w k i =
+    silence_same w _ (same_on_station w (station_served ask) _ (λ x t. refl))
 
 silence_refused : (note : Note) (r : Refusal) (w : World) → Silence w (after_refusal w note r)
 unfolding after_refusal

@@ -17,7 +17,7 @@ use Rattle.wf_def_agreement.specs.Session.{Session, request_due, has_room, waiti
 use Rattle.wf_law_rules.proofs.Lemmas.Numbers.{on_bool, not_eq, eq_yes}
 use Rattle.wf_law_rules.proofs.Lemmas.Tables.{each_put}
 use Rattle.wf_def_world.specs.World.{World, Mode, holds_back, Station, Tid, Queue, Exchange, no_tid, no_station, new_queue, session, tid_of, station, rotation, is_live, owed, exchange, with_station, on_station, on_tid, on_receiver, with_rotation, with_exchange, opening, standing, no_share}
-use Rattle.wf_def_world.specs.CanSend.{is_request, request_open, can_send, can_send_in, has_credit, is_below_aql, may_receive, is_ready, with_listing_in, with_listings_in, with_listings_of, is_to_list}
+use Rattle.wf_def_world.specs.CanSend.{is_request, request_open, can_send, can_send_in, is_below_aql, may_receive, is_ready, with_listing_in, with_listings_in, with_listings_of, is_to_list, is_reachable}
 use Rattle.wf_def_world.specs.Exchanges.{after_arrival}
 use Rattle.wf_def_world.specs.Refusals.{refusal}
 use Rattle.wf_def_world.specs.Step.{Outcome, arrive_outcome, answer_outcome, outcome_where_open, outcome_of, station_of, after_refusal, judged_outcome, step}
@@ -251,7 +251,7 @@ may_receive_same : (w u : World) (s : ℕ) (c : Class) → HasSameTransmit w u �
 may_receive_same w u s c h = ap₂ (λ (a b : Bool). a && b)
     (reads_same (λ (x : Station). not x.stopped) (λ x. refl) w u s h)
     (ap₂ (λ (a b : Bool). a && b)
-    (reads_same (λ (x : Station). not x.asleep || has_credit x.credit c) (λ x. refl) w u s h)
+    (reads_same (λ (x : Station). is_reachable x c) (λ x. refl) w u s h)
     (below_aql_same w u s c h))
 
 ready_same : (w u : World) (c : Class) (s : ℕ) → HasSameTransmit w u → is_ready u c s ≡ is_ready w c s

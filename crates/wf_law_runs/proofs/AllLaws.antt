@@ -47,6 +47,10 @@ use Rattle.wf_law_runs.proofs.Groups.Apart.{apart_law}
 use Rattle.wf_law_runs.proofs.Groups.Counts.{count_law}
 use Rattle.wf_law_runs.proofs.Groups.Orders.{order_law}
 use Rattle.wf_law_runs.proofs.Groups.Beacons.{dtim_law, announced_law, more_law}
+use Rattle.wf_law_runs.proofs.Services.Granted.{granted_law, eosp_law, last_law}
+use Rattle.wf_law_runs.proofs.Services.Periods.{trigger_law, end_law}
+use Rattle.wf_law_runs.proofs.Services.Limits.{limit_law as service_limit_law}
+use Rattle.wf_law_runs.proofs.Services.Apart.{apart_law as service_apart_law}
 
 pub laws : (config : Config) (history : List Entry) → IsInRange config → Laws config history
 laws config h range = record {
@@ -98,4 +102,11 @@ laws config h range = record {
   dtim = dtim_law config h;
   announced = announced_law config h;
   group_more = more_law config h;
+  granted = granted_law config h;
+  triggers = trigger_law config h;
+  service_limits = service_limit_law config h;
+  service_ends = end_law config h;
+  eosp = eosp_law config h;
+  last = last_law config h;
+  services_apart = service_apart_law;
 }

@@ -4,6 +4,7 @@
 pub mod Moments
 pub mod Refused
 pub mod Fixed
+pub mod Traits
 pub mod Limits
 pub mod Picked
 pub mod Marks

@@ -29,6 +29,9 @@
 --   group_apart_law, group_count_law,           Groups (Apart, Counts, Orders, Beacons)
 --     group_order_law, dtim_law,
 --     announced_law, group_more_law
+--   granted_law, trigger_law, eosp_law,         Services (Granted, Periods, Limits, Apart)
+--     last_law, service_limit_law,
+--     service_end_law, service_apart_law
 --
 -- Each law is an invariant of worlds, or a relation between a world and a later one. For each part of a
 -- call, a lemma with the name of this part proves that the part keeps it. Further lemmas prove the same for
@@ -56,6 +59,7 @@ mod Tries
 mod Rotations
 mod Unsettled
 pub mod Groups
+pub mod Services
 mod Orders
 mod Witnesses
 pub mod AllLaws

@@ -8,6 +8,6 @@
 mod Counts
 mod Flights
 mod Keeps
-mod Fills
-mod Pulls
+pub mod Fills
+pub mod Pulls
 pub mod Law

@@ -16,3 +16,4 @@ pub mod Weights
 pub mod Offloads
 pub mod Modes
 pub mod Groups
+pub mod Services

@@ -50,9 +50,9 @@ FlowReleaseLaw config history =
 -- Returns the ids that a reply sends, in their order. Only the reply to a Pull sends frames. A frame of an
 -- exchange counts as sent, even if it never goes on the air.
 abbrev pub ids_sent_by : ReplyNote → List ℕ
-ids_sent_by (Send exchange station tid air (Mpdus mpdus) more) = map (λ m. m.0) mpdus
-ids_sent_by (Send exchange station tid air (Batch ids) more) = ids
-ids_sent_by (Send exchange station tid air (Plain mpdus) more) = map (λ m. m.0) mpdus
+ids_sent_by (Send exchange station tid air (Mpdus mpdus) more eosp) = map (λ m. m.0) mpdus
+ids_sent_by (Send exchange station tid air (Batch ids) more eosp) = ids
+ids_sent_by (Send exchange station tid air (Plain mpdus) more eosp) = map (λ m. m.0) mpdus
 ids_sent_by reply = []
 
 -- Returns the ids that are not among the old ones.

@@ -33,6 +33,7 @@ use Rattle.wf_law_runs.specs.Offloads.{OffloadLaw}
 use Rattle.wf_law_runs.specs.Modes.{ModeLaw, RepeatLaw}
 use Rattle.wf_law_runs.specs.Unsettled.{UnsettledLaw}
 use Rattle.wf_law_runs.specs.Groups.{GroupApartLaw, GroupCountLaw, GroupOrderLaw, DtimLaw, AnnouncedLaw, GroupMoreLaw}
+use Rattle.wf_law_runs.specs.Services.{GrantedLaw, TriggerLaw, ServiceLimitLaw, ServiceEndLaw, EospLaw, LastLaw, ServiceApartLaw}
 
 -- The laws of a history.
 pub record Laws (config : Config) (history : List Entry) : Type 0 where
@@ -123,3 +124,14 @@ pub record Laws (config : Config) (history : List Entry) : Type 0 where
   pub dtim : DtimLaw config history
   pub announced : AnnouncedLaw config history
   pub group_more : GroupMoreLaw config history
+  -- The exchanges that a station gets while it sleeps. How a service period begins, how many frames it has,
+  -- and how it ends.
+  pub granted : GrantedLaw config history
+  pub triggers : TriggerLaw config history
+  pub service_limits : ServiceLimitLaw config history
+  pub service_ends : ServiceEndLaw config history
+  -- Which exchanges of a service period have the EOSP bit.
+  pub eosp : EospLaw config history
+  pub last : LastLaw config history
+  -- Calls about service periods are apart from all else.
+  pub services_apart : ServiceApartLaw

@@ -31,3 +31,4 @@ pub mod Offloads
 pub mod Modes
 pub mod Unsettled
 pub mod Groups
+pub mod Services

@@ -1,12 +1,20 @@
 -- Defines the law of ranges: which values stay in their ranges after every entry of every run.
-use Rattle.std.specs.Prelude.{◌≡◌, ℕ, ◌<◌, ◌≤◌, true, List, IfSome}
+use Rattle.std.specs.Prelude.{◌≡◌, ℕ, ◌<◌, ◌≤◌, Bool, true, List, IfSome}
 use Rattle.wf_frame.specs.declared.settings.Config.{Config}
+use Rattle.wf_frame.specs.Classes.{greatest_classes}
 use Rattle.wf_def_air.specs.Airtime.{IsRate, IsAllowed}
 use Rattle.wf_def_codel.specs.Codel.{Codel, greatest_count}
 use Rattle.wf_def_lists.specs.Bounds.{greatest_window, greatest_exponent, greatest_weight, least_ampdu, greatest_ampdu}
 use Rattle.wf_def_world.specs.World.{World, station, session, receiver, queue, is_live}
 use Rattle.wf_def_world.specs.Run.{Entry}
 use Rattle.wf_def_world.specs.Stretches.{world_at}
+
+-- An open service period, of which this number of frames is left. Its station sleeps. If it has a limit, at
+-- least one frame is left, and at most as many as the limit.
+pub record IsOpenService (sleeps : Bool) (most left : ℕ) : Type 0 where
+  pub asleep : sleeps ≡ true
+  pub within : left ≤ most
+  pub some : 1 ≤ most → 1 ≤ left
 
 -- The values of a live station.
 pub record IsStation (config : Config) (w : World) (s : ℕ) : Type 0 where
@@ -19,6 +27,9 @@ pub record IsStation (config : Config) (w : World) (s : ℕ) : Type 0 where
   pub ampdu : IfSome (station w s).ampdu (λ n. (least_ampdu ≤ n) × (n ≤ greatest_ampdu))
   -- Only a sleeping station has a credit.
   pub credit : IfSome (station w s).credit (λ _. (station w s).asleep ≡ true)
+  -- The set of its delivery-enabled classes, and the frames that are left of its service period.
+  pub delivery : (station w s).delivery ≤ greatest_classes
+  pub service : IfSome (station w s).service (IsOpenService (station w s).asleep (station w s).most)
   -- Both sides of each TID's agreement have its window.
   pub window : (t : ℕ) → t < 8 → (1 ≤ (session w s t).size) × ((session w s t).size ≤ greatest_window)
   pub both : (t : ℕ) → (receiver w s t).size ≡ (session w s t).size

@@ -92,7 +92,7 @@ ComputedLaw config h = config.charge ≡ 0 → AreWithin 0 (opening config) h
 
 -- The computed airtime of the exchange that a reply opens for a station; 0 if it opens none.
 abbrev pub airtime_sent_to : ℕ → ReplyNote → ℕ
-airtime_sent_to s (Send exchange station tid air part more) = if station == s then air else 0
+airtime_sent_to s (Send exchange station tid air part more eosp) = if station == s then air else 0
 airtime_sent_to s reply = 0
 
 -- The computed airtime of the exchange of a class that a call opens for a station; 0 if it opens none.

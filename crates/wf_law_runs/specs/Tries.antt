@@ -39,7 +39,7 @@ count_in_part id (Request start) = 0
 
 -- Returns how often a reply sends a frame. Only the reply to a Pull sends frames.
 abbrev pub tries_by : ℕ → ReplyNote → ℕ
-tries_by id (Send exchange station tid air part more) = count_in_part id part
+tries_by id (Send exchange station tid air part more eosp) = count_in_part id part
 tries_by id reply = 0
 
 -- Returns how often the calls of a history send a frame, from a world on.
@@ -56,7 +56,7 @@ frames_in_part (Request start) = 0
 
 -- Returns how many frames a reply sends.
 abbrev pub frames_sent_by : ReplyNote → ℕ
-frames_sent_by (Send exchange station tid air part more) = frames_in_part part
+frames_sent_by (Send exchange station tid air part more eosp) = frames_in_part part
 frames_sent_by reply = 0
 
 -- Returns how many frames the calls of a history send, from a world on. A frame counts each time it is sent.
@@ -105,9 +105,9 @@ frames_unsent w (e ∷ es) = frames_unsent_by w e.1 + frames_unsent (step w e.1)
 
 -- Returns how many exchanges of data a reply opens.
 abbrev pub data_exchanges_by : ReplyNote → ℕ
-data_exchanges_by (Send exchange station tid air (Mpdus mpdus) more) = 1
-data_exchanges_by (Send exchange station tid air (Batch ids) more) = 1
-data_exchanges_by (Send exchange station tid air (Plain mpdus) more) = 1
+data_exchanges_by (Send exchange station tid air (Mpdus mpdus) more eosp) = 1
+data_exchanges_by (Send exchange station tid air (Batch ids) more eosp) = 1
+data_exchanges_by (Send exchange station tid air (Plain mpdus) more eosp) = 1
 data_exchanges_by reply = 0
 
 -- Returns how many exchanges of data the calls of a history open, from a world on.

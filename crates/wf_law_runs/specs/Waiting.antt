@@ -23,7 +23,7 @@ use Rattle.wf_law_runs.specs.Shares.{received_between, deficit_then, quantum_the
 
 -- Whether a reply opens an exchange for a station.
 abbrev pub is_sent_to : ℕ → ReplyNote → Bool
-is_sent_to s (Send exchange station tid air part more) = station == s
+is_sent_to s (Send exchange station tid air part more eosp) = station == s
 is_sent_to s reply = false
 
 -- How many exchanges of a class a call opens for a station: 1 or 0.

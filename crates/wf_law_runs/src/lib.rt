@@ -34,6 +34,7 @@ ghost use Rattle.wf_law_runs.specs.Ranges.{RangeLaw};
 ghost use Rattle.wf_law_runs.specs.Releases.{OnceLaw, ReleaseLaw};
 ghost use Rattle.wf_law_runs.specs.Room.{LimitLaw, RoomLaw};
 ghost use Rattle.wf_law_runs.specs.Sent.{SentLaw};
+ghost use Rattle.wf_law_runs.specs.Services.{GrantedLaw, TriggerLaw, ServiceLimitLaw, ServiceEndLaw, EospLaw, LastLaw, ServiceApartLaw};
 ghost use Rattle.wf_law_runs.specs.Shares.{ComputedLaw, ShareLaw, SpentLaw};
 ghost use Rattle.wf_law_runs.specs.Sums.{SumLaw};
 ghost use Rattle.wf_law_runs.specs.Rotations.{RotationLaw};
@@ -159,7 +160,8 @@ pub fn limit_law()
 
 /// After every entry, the values of a live station are in their ranges: its number, weight, rate, exponent,
 /// stated length of aggregates and windows. The setting `legacy` allows its rate. Only a sleeping station has
-/// a credit. CoDel's count is at least 1 while it drops, and CoDel's counts fit 32 bits (specs/Ranges).
+/// a credit or an open service period, and no more frames are left of a service period than its limit.
+/// CoDel's count is at least 1 while it drops, and CoDel's counts fit 32 bits (specs/Ranges).
 pub fn range_law()
     ensures { (config : Config) → (history : List Entry) → IsInRange config → RangeLaw config history }
 {}
@@ -345,6 +347,47 @@ pub fn announced_law()
 /// (specs/Groups; IEEE 802.11-2012, 8.2.4.1.8).
 pub fn group_more_law()
     ensures { (config : Config) → (history : List Entry) → GroupMoreLaw config history }
+{}
+
+/// An exchange to a station that sleeps is due to a credit for its class, which a poll gave, or is part of
+/// its service period (specs/Services; IEEE 802.11-2012, 10.2.1.5 and 10.2.1.6).
+pub fn granted_law()
+    ensures { (config : Config) → (history : List Entry) → GrantedLaw config history }
+{}
+
+/// Only a trigger opens a service period, and only that of its station (specs/Services; IEEE 802.11-2012,
+/// 10.2.1.5).
+pub fn trigger_law()
+    ensures { (config : Config) → (history : List Entry) → TriggerLaw config history }
+{}
+
+/// From a trigger until its service period ends, at most as many frames of delivery-enabled classes go to the
+/// station as the limit, if there is one (specs/Services; IEEE 802.11-2012, 10.2.1.5).
+pub fn service_limit_law()
+    ensures { (config : Config) → (history : List Entry) → ServiceLimitLaw config history }
+{}
+
+/// A service period ends only by its last exchange, by the call that ends it, or when the station wakes or
+/// leaves (specs/Services; IEEE 802.11-2012, 10.2.1.5).
+pub fn service_end_law()
+    ensures { (config : Config) → (history : List Entry) → ServiceEndLaw config history }
+{}
+
+/// An exchange with the EOSP bit is part of a service period, which it ends (specs/Services; IEEE
+/// 802.11-2012, 8.2.4.5.3).
+pub fn eosp_law()
+    ensures { (config : Config) → (history : List Entry) → EospLaw config history }
+{}
+
+/// Frames of a service period have the EOSP bit if, and only if, nothing is left of the period after them or
+/// they do not have the More Data bit (specs/Services; IEEE 802.11-2012, 8.2.4.1.8 and 8.2.4.5.3).
+pub fn last_law()
+    ensures { (config : Config) → (history : List Entry) → LastLaw config history }
+{}
+
+/// A call about service periods changes no share, no session, no queue and no rotation (specs/Services).
+pub fn service_apart_law()
+    ensures { ServiceApartLaw }
 {}
 
 /// All laws of a history (specs/Laws).

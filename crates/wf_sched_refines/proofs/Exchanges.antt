@@ -147,7 +147,8 @@ opened_stands v w x h = of_books _ _ (stands_more v (books w) (map core (w.opene
 pub sent_stands : (v : SchedValue) (s t : ℕ) (c : Class) (p : Prepared) → SchedulerStandsFor v p.world →
     SchedulerStandsFor (with_pending_charged p.world.config v s c p.charge) (send_outcome s t c p).world
 unfolding send_outcome
-sent_stands v s t c p h = spent_leaves _ s _ (opened_stands v p.world (exchange_of s t c p) h)
+sent_stands v s t c p h =
+    spent_leaves _ (exchange_of s t c p) _ (opened_stands v p.world (exchange_of s t c p) h)
 
 pub winner_stands : (v : SchedValue) (w : World) (c : Class) (winner : Option ℕ) → SchedulerStandsFor v w →
     SchedulerStandsFor (with_winner_sent w c winner v) (pull_outcome_for w c winner).world

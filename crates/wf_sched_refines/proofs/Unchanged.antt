@@ -11,9 +11,11 @@ use Rattle.wf_def_rotation.specs.Rotation.{Rotation, has_key, in_order}
 use Rattle.wf_def_agreement.specs.Session.{Session, End}
 use Rattle.wf_def_agreement.specs.Receiver.{Receiver, score}
 use Rattle.wf_def_world.specs.World.{World, Bounds, Station, Share, Mode, Tid, Queue, Exchange, Mpdu, Content, Frames, Request, no_share, is_live, is_agreed, receiver, exchange, on_station, with_station, on_tid, on_session, on_receiver, with_mode, with_queues, on_share, on_queue, with_fate, with_frame_finished, with_frames_finished, with_exchange, with_bounds}
+use Rattle.wf_frame.specs.declared.notes.ServiceAsk.{ServiceAsk}
+use Rattle.wf_def_world.specs.Service.{station_served}
 use Rattle.wf_def_world.specs.FlowQueues.{taken_for_tid, after_queue_flushed, after_queues_flushed}
-use Rattle.wf_def_world.specs.Exchanges.{after_arrival, after_tid_turn, without_credit, prepared_exchange, aggregate_of, with_failed_finished, with_settled, with_all_settled, caught_up, caught_up_if_plain, after_done}
-use Rattle.wf_def_world.specs.Step.{after_tids_left, with_frame, rate_outcome, tick_outcome, enqueue_outcome, arrive_outcome, answer_outcome, sleep_outcome, wake_outcome, poll_outcome, reap_outcome, ampdu_outcome, stop_outcome, start_outcome, unsent_outcome, give_up_outcome, flush_outcome, after_tid_flushed, hold_outcome, begin_outcome, free_outcome, cease_outcome, group_outcome}
+use Rattle.wf_def_world.specs.Exchanges.{after_arrival, after_tid_turn, prepared_exchange, aggregate_of, with_failed_finished, with_settled, with_all_settled, caught_up, caught_up_if_plain, after_done, with_spent}
+use Rattle.wf_def_world.specs.Step.{after_tids_left, with_frame, rate_outcome, tick_outcome, enqueue_outcome, arrive_outcome, answer_outcome, sleep_outcome, wake_outcome, poll_outcome, reap_outcome, ampdu_outcome, stop_outcome, start_outcome, unsent_outcome, give_up_outcome, flush_outcome, after_tid_flushed, hold_outcome, begin_outcome, free_outcome, cease_outcome, group_outcome, service_outcome}
 use Rattle.wf_def_lists.specs.Lists.{IsOnce}
 use Rattle.wf_law_rules.proofs.Lemmas.Tables.{at_put_same, at_put_other}
 use Rattle.wf_law_runs.proofs.Deficits.Books.{cases_class, account, core, Account, Books, books, with_account, books_with_station, books_on_queue, books_finish, books_finish_all}
@@ -123,9 +125,9 @@ pub queues_leave : (w : World) (s t : ℕ) (r : Rotation) → LeavesRotas w (wit
 unfolding with_queues
 queues_leave w s t r = tid_leaves w s t _
 
-pub spent_leaves : (w : World) (s : ℕ) → LeavesRotas w (without_credit w s)
-unfolding without_credit
-spent_leaves w s = station_leaves w s _ (record { weight = λ x. refl; deficits = λ x c. refl })
+pub spent_leaves : (w : World) (x : Exchange) → LeavesRotas w (with_spent w x)
+unfolding with_spent
+spent_leaves w x = station_leaves w x.station _ (record { weight = λ x. refl; deficits = λ x c. refl })
 
 -- a change of a share that keeps the deficit
 pub share_leaves : (w : World) (s : ℕ) (c : Class) (f : Share → Share) →
@@ -322,6 +324,10 @@ reaped_leaves w ids = leaves_same w _ (books_reaped ids w)
 
 pub grouped_leaves : (w : World) (ask : GroupAsk) → LeavesRotas w (group_outcome w ask).world
 grouped_leaves w ask = leaves_same w _ refl
+
+pub served_leaves : (w : World) (ask : ServiceAsk) → LeavesRotas w (service_outcome w ask).world
+served_leaves w ask =
+    station_leaves w (station_served ask) _ (record { weight = λ x. refl; deficits = λ x c. refl })
 
 pub left_tids_leave : (w : World) (s : ℕ) (ts : List ℕ) → LeavesRotas w (after_tids_left w s ts)
 left_tids_leave w s ts = leaves_same w _ (books_left_tids ts w s)

@@ -15,6 +15,7 @@ ghost use Rattle.wf_frame.specs.declared.classes.Class.{Class};
 ghost use Rattle.wf_frame.specs.declared.classes.Fate.{Fate};
 ghost use Rattle.wf_frame.specs.declared.notes.AskedRate.{AskedRate};
 ghost use Rattle.wf_frame.specs.declared.notes.GroupAsk.{GroupAsk};
+ghost use Rattle.wf_frame.specs.declared.notes.ServiceAsk.{ServiceAsk};
 ghost use Rattle.wf_frame.specs.declared.notes.Note.{Note};
 ghost use Rattle.wf_frame.specs.declared.notes.ReplyNote.TheVariants.{Charged};
 ghost use Rattle.wf_frame.specs.declared.notes.Refusal.{Refusal};
@@ -27,11 +28,11 @@ ghost use Rattle.wf_def_agreement.specs.Receiver.{Receiver};
 ghost use Rattle.wf_def_world.specs.World.{World, Bounds, Station, Mode, Tid, Queue, Exchange, Content, opening as opening_world, share, owed, pending_air, standing, rotation, is_live, exchange, with_station, on_station, on_tid, on_session, on_receiver, on_queue, with_mode, with_queues, with_fate, with_frame_finished, with_frames_finished, with_exchange, without_exchange, with_bounds};
 ghost use Rattle.wf_def_world.specs.FlowQueues.{taken_for_tid};
 ghost use Rattle.wf_def_world.specs.CanSend.{is_ready, is_debtor, is_to_list, with_listing_in, with_listings_in, with_listings_of};
-ghost use Rattle.wf_def_world.specs.Exchanges.{Prepared, picked_station, after_pick, after_tid_turn, without_credit, aggregate_of, prepared_exchange, with_exchange_opened, charge_of, after_charge, after_done};
+ghost use Rattle.wf_def_world.specs.Exchanges.{Prepared, picked_station, after_pick, after_tid_turn, with_spent, aggregate_of, prepared_exchange, with_exchange_opened, charge_of, after_charge, after_done};
 ghost use Rattle.wf_def_world.specs.Refusals.{refusal};
 ghost use Rattle.wf_def_world.specs.Stretches.{world_at};
 ghost use Rattle.wf_def_world.specs.Run.{Entry};
-ghost use Rattle.wf_def_world.specs.Step.{join_outcome as joined_world, offload_outcome, plain_outcome, weight_outcome, hold_outcome, begin_outcome, free_outcome, cease_outcome, outcome_of, concerned_station, step, after_tids_left, without_listings, leave_outcome, rate_outcome, tick_outcome, with_frame, enqueue_outcome, send_outcome, pull_outcome_for, arrive_outcome, answer_outcome, done_outcome, sleep_outcome, wake_outcome, poll_outcome, rx_outcome, reap_outcome, ampdu_outcome, stop_outcome, start_outcome, unsent_outcome, give_up_outcome, flush_outcome, group_outcome};
+ghost use Rattle.wf_def_world.specs.Step.{join_outcome as joined_world, offload_outcome, plain_outcome, weight_outcome, hold_outcome, begin_outcome, free_outcome, cease_outcome, outcome_of, concerned_station, step, after_tids_left, without_listings, leave_outcome, rate_outcome, tick_outcome, with_frame, enqueue_outcome, send_outcome, pull_outcome_for, arrive_outcome, answer_outcome, done_outcome, sleep_outcome, wake_outcome, poll_outcome, rx_outcome, reap_outcome, ampdu_outcome, stop_outcome, start_outcome, unsent_outcome, give_up_outcome, flush_outcome, group_outcome, service_outcome};
 ghost use Rattle.wf_law_rules.specs.Renamed.{IsSame};
 ghost use Rattle.wf_law_runs.specs.Windows.{OpenRises, EachOpen};
 ghost use Rattle.wf_rotation.specs.Rotas.{is_ready as entry};
@@ -198,7 +199,7 @@ pub fn the_same_turns()
 
 /// A change of a station that keeps its weight and its deficits does not affect the scheduler: a change of
 /// its agreements or their modes, of the flow queues that it lists, of the TID whose turn it is, or of its
-/// credit.
+/// credit and its service period.
 pub fn a_change_of_a_station()
     ensures station { (w : World) (s : ℕ) (f : Station → Station) → KeepsRotas f →
         LeavesRotas w (on_station w s f) }
@@ -208,7 +209,7 @@ pub fn a_change_of_a_station()
     ensures mode { (w : World) (s t : ℕ) (mode : Mode) → LeavesRotas w (with_mode w s t mode) }
     ensures queues { (w : World) (s t : ℕ) (r : Rotation) → LeavesRotas w (with_queues w s t r) }
     ensures turn { (w : World) (s : ℕ) (c : Class) (t : ℕ) → LeavesRotas w (after_tid_turn w s c t) }
-    ensures credit { (w : World) (s : ℕ) → LeavesRotas w (without_credit w s) }
+    ensures spent { (w : World) (x : Exchange) → LeavesRotas w (with_spent w x) }
 {}
 
 /// Changes of frames and flow queues do not affect the scheduler.
@@ -277,6 +278,7 @@ pub fn a_call_that_leaves_the_turns()
     ensures credited { (w : World) (s : ℕ) → LeavesRotas w (poll_outcome w s).world }
     ensures reaped { (w : World) (ids : List ℕ) → LeavesRotas w (reap_outcome w ids).world }
     ensures grouped { (w : World) (ask : GroupAsk) → LeavesRotas w (group_outcome w ask).world }
+    ensures served { (w : World) (ask : ServiceAsk) → LeavesRotas w (service_outcome w ask).world }
 {}
 
 /// Both sides still agree after a whole call. A call that is not refused changes the scheduler as

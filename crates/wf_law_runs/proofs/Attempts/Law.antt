@@ -3,7 +3,7 @@
 use Rattle.std.proofs.Common.{◌≡◌, refl, ap, sym, ◌∙◌, subst, arith, ℕ, zero, suc, ◌+◌, ◌-◌, ◌<◌, ◌≤◌, nat_le, Bool, true, false, if◌then◌else◌, not, ◌==◌, List, [], ◌∷◌, ◌++◌, length, take, Option, Some, None, IfSome}
 use Rattle.wf_frame.specs.declared.settings.Config.{Config}
 use Rattle.wf_frame.specs.declared.classes.Class.{Class}
-use Rattle.wf_frame.specs.declared.notes.Ask.TheVariants.{Join, Leave, Rate, Tick, Pull, Arrive, Answer, Done, Sleep, Wake, Poll, Rx, Reap, Ampdu, Stop, Start, Unsent, GiveUp, Flush, Offload, Weight, Plain, Hold, Begin, Free, Cease, Group}
+use Rattle.wf_frame.specs.declared.notes.Ask.TheVariants.{Join, Leave, Rate, Tick, Pull, Arrive, Answer, Done, Sleep, Wake, Poll, Rx, Reap, Ampdu, Stop, Start, Unsent, GiveUp, Flush, Offload, Weight, Plain, Hold, Begin, Free, Cease, Group, Service}
 use Rattle.wf_frame.specs.declared.notes.Limits.{Limits}
 use Rattle.wf_frame.specs.declared.notes.Note.{Note}
 use Rattle.wf_frame.specs.declared.notes.Note.TheVariants.{Enqueue, Asked}
@@ -17,6 +17,7 @@ use Rattle.wf_def_codel.specs.Codel.{Item}
 use Rattle.wf_def_agreement.specs.Session.{End, Session, Slot, State, no_slot, slot, on_slot, with_state, with_number_given, is_waiting, slot_after_miss, slot_given_up, after_flush, is_failed, request_due, start_of}
 use Rattle.wf_def_agreement.specs.Receiver.{with_start}
 use Rattle.wf_def_world.specs.World.{World, Mode, Station, Tid, Exchange, Mpdu, Content, Frames, Request, new_tid, tid_of, session, is_live, exchange, with_mode, with_station, on_station, on_tid, on_session, on_receiver, on_share, with_exchange, without_exchange, with_fate, with_frame_finished, opening}
+use Rattle.wf_def_world.specs.Service.{station_served}
 use Rattle.wf_def_world.specs.FlowQueues.{taken_for_tid}
 use Rattle.wf_def_world.specs.CanSend.{can_send_in, can_give}
 use Rattle.wf_def_world.specs.Exchanges.{Aggregate, Prepared, most_frames, end_of, picked_station, sending_tid, waiting_mpdus, longest_fitting, with_number, with_fresh, aggregate_of, with_flying, prepared_data, prepared_exchange, with_exchange_opened, after_tid_turn, after_arrival, after_charge, with_failed_finished, with_settled, with_all_settled, with_heard_start, after_done, caught_up, caught_up_if_plain}
@@ -184,7 +185,7 @@ tried_prepared limit w s t some i live h =
 tried_sent : (limit s t : ℕ) (c : Class) (p : Prepared) → Tried limit p.world →
     Tried limit (send_outcome s t c p).world
 unfolding send_outcome with_exchange_opened
-tried_sent limit s t c p h = tried_same limit _ _ (same_spent _ s) h
+tried_sent limit s t c p h = tried_same limit _ _ (same_spent _ _) h
 
 tried_pulled_by : (o : Option ℕ) (limit : ℕ) (w : World) (c : Class) →
     IfSome o (λ s. (is_live w s ≡ true) × (can_send_in w s c ≡ true))
@@ -476,6 +477,8 @@ tried_done (Asked (GiveUp e n)) limit w some same_limit i h =
     tried_open (IsFound w i) (exchange w e) limit w _ (found w i e) (λ x _. tried_given_up limit w x n h) h
 tried_done (Asked (Flush s t)) limit w some same_limit i h = tried_flushed limit w s t same_limit h
 tried_done (Asked (Group ask)) limit w some same_limit i h = h
+tried_done (Asked (Service ask)) limit w some same_limit i h =
+    tried_same limit w _ (same_on_station w (station_served ask) _ (λ x t. refl)) h
 
 tried_refused : (note : Note) (r : Refusal) (limit : ℕ) (w : World) → Tried limit w →
     Tried limit (after_refusal w note r)

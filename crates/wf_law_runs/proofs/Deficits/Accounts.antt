@@ -6,7 +6,7 @@ use Rattle.wf_frame.specs.declared.settings.Config.{Config}
 use Rattle.wf_frame.specs.declared.classes.Class.{Class}
 use Rattle.wf_frame.specs.declared.classes.Class.TheVariants.{Bk, Be, Vi, Vo}
 use Rattle.wf_frame.specs.declared.classes.Fate.{Fate}
-use Rattle.wf_frame.specs.declared.notes.Ask.TheVariants.{Join, Leave, Rate, Tick, Pull, Arrive, Answer, Done, Sleep, Wake, Poll, Rx, Reap, Ampdu, Stop, Start, Unsent, GiveUp, Flush, Offload, Weight, Plain, Hold, Begin, Free, Cease, Group}
+use Rattle.wf_frame.specs.declared.notes.Ask.TheVariants.{Join, Leave, Rate, Tick, Pull, Arrive, Answer, Done, Sleep, Wake, Poll, Rx, Reap, Ampdu, Stop, Start, Unsent, GiveUp, Flush, Offload, Weight, Plain, Hold, Begin, Free, Cease, Group, Service}
 use Rattle.wf_frame.specs.declared.notes.Limits.{Limits}
 use Rattle.wf_frame.specs.declared.notes.Note.{Note}
 use Rattle.wf_frame.specs.declared.notes.Note.TheVariants.{Enqueue, Asked}
@@ -19,10 +19,11 @@ use Rattle.wf_def_rotation.specs.Rotation.{Rotation}
 use Rattle.wf_def_agreement.specs.Session.{Session, End}
 use Rattle.wf_def_agreement.specs.Receiver.{Receiver}
 use Rattle.wf_def_world.specs.World.{World, Mode, Agreed, Station, Share, Tid, Queue, Exchange, Mpdu, Content, Frames, Request, new_share, no_share, no_station, quantum, with_station, on_station, on_tid, on_session, on_receiver, with_queues, on_share, on_queue, with_rotation, with_fate, with_frame_finished, with_frames_finished, with_exchange, without_exchange, with_mode, opening}
+use Rattle.wf_def_world.specs.Service.{station_served}
 use Rattle.wf_frame.specs.Classes.{class_number}
 use Rattle.wf_def_world.specs.FlowQueues.{without_head, after_limit, with_listed_queue, with_appended, after_put_in, with_queues_paid, taken_by_codel, taken_from_picked, taken_for_tid, after_queue_left, after_queues_left, after_queue_flushed, after_queues_flushed}
 use Rattle.wf_def_world.specs.CanSend.{with_listing_in, with_listings_in, with_listings_of}
-use Rattle.wf_def_world.specs.Exchanges.{Aggregate, Prepared, with_station_paid, with_stations_paid, after_pick, after_tid_turn, with_fresh, aggregate_of, with_number, without_credit, prepared_data, prepared_exchange, with_exchange_opened, after_charge, with_failed_finished, with_settled, with_all_settled, after_done, charge_of, caught_up, caught_up_if_plain}
+use Rattle.wf_def_world.specs.Exchanges.{Aggregate, Prepared, with_station_paid, with_stations_paid, after_pick, after_tid_turn, with_fresh, aggregate_of, with_number, prepared_data, prepared_exchange, with_exchange_opened, after_charge, with_failed_finished, with_settled, with_all_settled, after_done, charge_of, caught_up, caught_up_if_plain, with_spent}
 use Rattle.wf_def_world.specs.Step.{Outcome, join_outcome, after_tid_left, after_tids_left, without_listings, leave_outcome, after_tid_flushed, flush_outcome, rate_outcome, tick_outcome, with_frame, enqueue_outcome, send_outcome, pull_outcome_for, pull_outcome, arrive_outcome, answer_outcome, unsent_outcome, give_up_outcome, done_outcome, outcome_where_open, sleep_outcome, wake_outcome, poll_outcome, rx_outcome, reap_outcome, outcome_of, after_refusal, judged_outcome, step, offload_outcome, weight_outcome, new_station, plain_window, plain_outcome, with_window, after_numbers_ended, hold_outcome, begin_outcome, free_outcome, cease_outcome}
 use Rattle.wf_def_world.specs.Run.{Entry, world_after}
 use Rattle.wf_law_runs.proofs.Common.Refused.{after_idle}
@@ -263,7 +264,7 @@ unfolding with_exchange_opened
 fair_opening_exchange w x h = record { each = h.each }
 
 fair_sent : (s t : ℕ) (c : Class) (p : Prepared) → IsFair p.world → IsFair (send_outcome s t c p).world
-unfolding send_outcome without_credit
+unfolding send_outcome with_spent
 fair_sent s t c p h = fair_on_station _ s _ (fair_opening_exchange p.world _ h) (λ q x k. k)
 
 fair_pulled_by : (o : Option ℕ) (w : World) (c : Class) → IsFair w → IsFair (pull_outcome_for w c o).world
@@ -530,6 +531,7 @@ fair_done (Asked (Poll s)) w h = fair_on_station w s _ h (λ q x k. k)
 fair_done (Asked (Rx s c air)) w h = fair_received w s c air h
 fair_done (Asked Reap) w h = fair_reaped _ w h
 fair_done (Asked (Group ask)) w h = record { each = h.each }
+fair_done (Asked (Service ask)) w h = fair_on_station w (station_served ask) _ h (λ q x k. k)
 
 fair_refused : (note : Note) (r : Refusal) (w : World) → IsFair w → IsFair (after_refusal w note r)
 unfolding after_refusal

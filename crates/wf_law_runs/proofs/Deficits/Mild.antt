@@ -13,7 +13,7 @@ use Rattle.wf_def_agreement.specs.Session.{waiting_numbers, request_due, has_roo
 use Rattle.wf_def_world.specs.World.{World, Bounds, Station, Share, Tid, Queue, holds_back, no_tid, no_station, new_queue, station, tid_of, queue, is_live, owed, with_bounds, with_station, on_station, on_tid, on_share, on_queue, with_rotation, with_fate, with_frame_finished, with_frames_finished}
 use Rattle.wf_frame.specs.Classes.{lower_tid, upper_tid}
 use Rattle.wf_def_world.specs.FlowQueues.{frames_queued}
-use Rattle.wf_def_world.specs.CanSend.{request_open, can_send, has_credit, can_send_in, is_below_aql, may_receive, is_ready}
+use Rattle.wf_def_world.specs.CanSend.{request_open, can_send, can_send_in, is_below_aql, is_reachable, may_receive, is_ready}
 use Rattle.wf_law_rules.proofs.Lemmas.Tables.{each_put, at_put_other}
 use Rattle.wf_def_lists.specs.Lists.{on}
 use Rattle.wf_law_rules.proofs.Lemmas.Counts.{on-cons_same, on-cons}
@@ -141,7 +141,7 @@ may_receive_same : (s : ℕ) (w v : World) → IsMild s w v → (y : ℕ) (c : C
 may_receive_same s w v m y c other = ap₂ (λ (a b : Bool). a && b)
     (reads (λ x. not x.stopped) (λ x. refl) s w v m y other)
     (ap₂ (λ (a b : Bool). a && b)
-    (reads (λ x. not x.asleep || has_credit x.credit c) (λ x. refl) s w v m y other)
+    (reads (λ x. is_reachable x c) (λ x. refl) s w v m y other)
     (below_same s w v m y c other))
 
 -- No other station becomes ready.

@@ -6,7 +6,7 @@ use Rattle.std.proofs.lemmas.Nat.{mod_below}
 use Rattle.std.proofs.lemmas.List.Folds.{list_any-append}
 use Rattle.wf_frame.specs.declared.settings.Config.{Config}
 use Rattle.wf_frame.specs.declared.classes.Class.{Class}
-use Rattle.wf_frame.specs.declared.notes.Ask.TheVariants.{Join, Leave, Rate, Tick, Pull, Arrive, Answer, Done, Sleep, Wake, Poll, Rx, Reap, Ampdu, Stop, Start, Unsent, GiveUp, Flush, Offload, Weight, Plain, Hold, Begin, Free, Cease, Group}
+use Rattle.wf_frame.specs.declared.notes.Ask.TheVariants.{Join, Leave, Rate, Tick, Pull, Arrive, Answer, Done, Sleep, Wake, Poll, Rx, Reap, Ampdu, Stop, Start, Unsent, GiveUp, Flush, Offload, Weight, Plain, Hold, Begin, Free, Cease, Group, Service}
 use Rattle.wf_frame.specs.declared.notes.Limits.{Limits}
 use Rattle.wf_frame.specs.declared.notes.Note.{Note}
 use Rattle.wf_frame.specs.declared.notes.Note.TheVariants.{Enqueue, Asked}
@@ -17,9 +17,10 @@ use Rattle.wf_def_rotation.specs.Rotation.{Rotation, no_keys, has_key, in_order,
 use Rattle.wf_def_agreement.specs.Session.{Session, End}
 use Rattle.wf_def_agreement.specs.Receiver.{Receiver}
 use Rattle.wf_def_world.specs.World.{World, Mode, Agreed, Station, Tid, Queue, Exchange, Mpdu, Content, Frames, Request, no_tid, no_station, new_queue, new_tid, tid_of, queue, is_live, live_stations, owed, exchange, with_station, on_station, on_tid, on_session, on_receiver, with_queues, on_queue, with_exchange, without_exchange, with_mode}
+use Rattle.wf_def_world.specs.Service.{station_served}
 use Rattle.wf_def_world.specs.FlowQueues.{without_head, after_limit, is_listed_elsewhere, goes_over, overflow_queue, queue_for, when_listed, with_listed_queue, with_appended, after_put_in, with_queues_paid, taken_by_codel, taken_from_picked, taken_for_tid, picked_queue, queue_need, has_frames, after_queue_left, after_queues_left, after_queue_flushed, after_queues_flushed}
 use Rattle.wf_def_world.specs.CanSend.{is_request}
-use Rattle.wf_def_world.specs.Exchanges.{Aggregate, Prepared, picked_station, with_station_paid, with_stations_paid, after_pick, after_tid_turn, with_number, with_fresh, aggregate_of, prepared_data, prepared_exchange, without_credit, exchange_of, with_exchange_opened, after_charge, with_failed_finished, with_settled, with_all_settled, after_done, sending_tid, after_arrival, caught_up, caught_up_if_plain}
+use Rattle.wf_def_world.specs.Exchanges.{Aggregate, Prepared, picked_station, with_station_paid, with_stations_paid, after_pick, after_tid_turn, with_number, with_fresh, aggregate_of, prepared_data, prepared_exchange, exchange_of, with_exchange_opened, after_charge, with_failed_finished, with_settled, with_all_settled, after_done, sending_tid, after_arrival, caught_up, caught_up_if_plain, with_spent}
 use Rattle.wf_def_world.specs.Refusals.{refusals}
 use Rattle.wf_def_world.specs.Step.{Outcome, join_outcome, after_tid_left, after_tids_left, without_listings, leave_outcome, after_tid_flushed, flush_outcome, rate_outcome, tick_outcome, with_frame, enqueue_outcome, send_outcome, pull_outcome_for, pull_outcome, arrive_outcome, answer_outcome, unsent_outcome, give_up_outcome, done_outcome, outcome_where_open, sleep_outcome, wake_outcome, poll_outcome, rx_outcome, reap_outcome, outcome_of, station_of, concerned_station, offload_outcome, weight_outcome, with_deficits_lowered, new_station, plain_window, plain_outcome, with_window, after_numbers_ended, hold_outcome, begin_outcome, free_outcome, cease_outcome}
 use Rattle.wf_law_rules.proofs.Lemmas.Tables.{at_put_other}
@@ -295,7 +296,7 @@ mild_exchange s w x h = mild_opened s w (map (λ y. if y.number == x.number then
     ∙ (ap (owed y c) (replaced x w.opened h) ∙ owed-core y c w.opened))
 
 mild_sent : (s t : ℕ) (c : Class) (p : Prepared) → IsMild s p.world (send_outcome s t c p).world
-unfolding send_outcome without_credit
+unfolding send_outcome with_spent
 mild_sent s t c p = mild_then s p.world _ _ (mild_opening p.world (exchange_of s t c p))
     (mild_on_station _ s _ (λ x. refl))
 
@@ -698,3 +699,5 @@ mild_done (Asked (Poll i)) w s r k o h = named i s w _ h (mild_on_station w i _ 
 mild_done (Asked (Rx i c air)) w s r k o h = mild_on_share s w i c _
 mild_done (Asked Reap) w s r k o h = mild_reaped w.finished s w
 mild_done (Asked (Group ask)) w s r k o h = mild_plain s w _ refl refl refl refl
+mild_done (Asked (Service ask)) w s r k o h =
+    named (station_served ask) s w _ h (mild_on_station w (station_served ask) _ (λ x. refl))

@@ -6,7 +6,7 @@ use Rattle.wf_frame.specs.declared.classes.Class.{Class}
 use Rattle.wf_frame.specs.declared.classes.Cause.TheVariants.{Codel as By_codel, Left, Overlimit, Retries, Flushed, Ended}
 use Rattle.wf_frame.specs.declared.classes.Fate.{Fate}
 use Rattle.wf_frame.specs.declared.classes.Fate.TheVariants.{Held, Acked, Dropped}
-use Rattle.wf_frame.specs.declared.notes.Ask.TheVariants.{Join, Leave, Rate, Tick, Pull, Arrive, Answer, Done, Sleep, Wake, Poll, Rx, Reap, Ampdu, Stop, Start, Unsent, GiveUp, Flush, Offload, Weight, Plain, Hold, Begin, Free, Cease, Group}
+use Rattle.wf_frame.specs.declared.notes.Ask.TheVariants.{Join, Leave, Rate, Tick, Pull, Arrive, Answer, Done, Sleep, Wake, Poll, Rx, Reap, Ampdu, Stop, Start, Unsent, GiveUp, Flush, Offload, Weight, Plain, Hold, Begin, Free, Cease, Group, Service}
 use Rattle.wf_frame.specs.declared.notes.Limits.{Limits}
 use Rattle.wf_frame.specs.declared.notes.Note.{Note}
 use Rattle.wf_frame.specs.declared.notes.Note.TheVariants.{Enqueue, Asked}
@@ -18,9 +18,10 @@ use Rattle.wf_def_codel.specs.Codel.{Item, Codel, Dequeued, renewed, drops as co
 use Rattle.wf_def_rotation.specs.Rotation.{in_order, no_keys}
 use Rattle.wf_def_agreement.specs.Session.{Session, State, End, request_due, with_state, after_end, after_flush}
 use Rattle.wf_def_world.specs.World.{World, Mpdu, Exchange, Content, Frames, Request, Frame, no_frame, frame, session, tid_of, queue, exchange, codel_params, on_session, on_receiver, on_station, on_share, with_station, with_queues, on_queue, with_fate, with_frame_finished, with_frames_finished, with_exchange, without_exchange}
+use Rattle.wf_def_world.specs.Service.{station_served}
 use Rattle.wf_def_world.specs.FlowQueues.{Taken, without_head, after_limit, is_at_limit, longest_queue, queue_for, after_put_in, after_dequeue, taken_by_codel, taken_from_picked, picked_queue, taken_for_tid, after_queue_left, after_queues_left, after_queue_flushed, after_queues_flushed}
 use Rattle.wf_def_world.specs.CanSend.{can_give, with_listings_of}
-use Rattle.wf_def_world.specs.Exchanges.{Aggregate, Prepared, most_frames, fits_in, waiting_mpdus, longest_fitting, fresh_mpdus, with_number, with_fresh, aggregate_of, prepared_data, prepared_request, prepared_exchange, with_flying, after_arrival, with_exchange_opened, without_credit, picked_station, sending_tid, after_tid_turn, after_charge, end_of, with_failed_finished, with_settled, with_all_settled, after_done, caught_up_if_plain}
+use Rattle.wf_def_world.specs.Exchanges.{Aggregate, Prepared, most_frames, fits_in, waiting_mpdus, longest_fitting, fresh_mpdus, with_number, with_fresh, aggregate_of, prepared_data, prepared_request, prepared_exchange, with_flying, after_arrival, with_exchange_opened, picked_station, sending_tid, after_tid_turn, after_charge, end_of, with_failed_finished, with_settled, with_all_settled, after_done, caught_up_if_plain, with_spent}
 use Rattle.wf_def_world.specs.Refusals.{refusal}
 use Rattle.wf_def_world.specs.Step.{Outcome, in_rising_order, waiting_ids, after_tid_left, after_tids_left, without_listings, leave_outcome, after_tid_flushed, flush_outcome, join_outcome, with_frame, enqueue_outcome, next_item, send_outcome, pull_outcome_for, pull_outcome, tick_outcome, rate_outcome, arrive_outcome, answer_outcome, unsent_outcome, give_up_outcome, done_outcome, outcome_where_open, sleep_outcome, wake_outcome, poll_outcome, rx_outcome, reap_outcome, outcome_of, after_refusal, judged_outcome, step, concerned_station, offload_outcome, plain_outcome, cease_outcome, after_numbers_ended}
 use Rattle.wf_law_rules.specs.CodelLaws.{Dequeue, codel_after_all, drops_by}
@@ -353,7 +354,7 @@ drops_prepared w s t =
     (no_drops P _ _ (untouched_on_session f.world s t (with_flying f.world.exchanges f.mpdus))))
 
 untouched_sent : (s t : ℕ) (c : Class) (p : Prepared) → Untouched p.world (send_outcome s t c p).world
-unfolding send_outcome with_exchange_opened without_credit on_station with_station
+unfolding send_outcome with_exchange_opened with_spent on_station with_station
 untouched_sent s t c p = record { frames = refl; finished = refl }
 
 -- A world with the same states and clock, and the same dequeues.
@@ -625,6 +626,7 @@ drops_done (Asked (Poll s)) w r = no_drops _ w _ (untouched_on_station w s _)
 drops_done (Asked (Rx s c air)) w r = no_drops _ w _ (untouched_on_station w s _)
 drops_done (Asked Reap) w r = none_wider _ w _ (none_reaped w.finished w)
 drops_done (Asked (Group ask)) w r = record { drops = λ k e. inl e }
+drops_done (Asked (Service ask)) w r = no_drops _ w _ (untouched_on_station w (station_served ask) _)
 
 untouched_refused : (note : Note) (r : Refusal) (w : World) → Untouched w (after_refusal w note r)
 unfolding after_refusal

@@ -8,7 +8,7 @@ use Rattle.wf_frame.specs.declared.classes.Class.{Class}
 use Rattle.wf_frame.specs.declared.classes.Cause.TheVariants.{Codel as By_codel, Left, Overlimit, Flushed}
 use Rattle.wf_frame.specs.declared.classes.Fate.{Fate}
 use Rattle.wf_frame.specs.declared.classes.Fate.TheVariants.{Dropped}
-use Rattle.wf_frame.specs.declared.notes.Ask.TheVariants.{Join, Leave, Rate, Tick, Pull, Arrive, Answer, Done, Sleep, Wake, Poll, Rx, Reap, Ampdu, Stop, Start, Unsent, GiveUp, Flush, Offload, Weight, Plain, Hold, Begin, Free, Cease, Group}
+use Rattle.wf_frame.specs.declared.notes.Ask.TheVariants.{Join, Leave, Rate, Tick, Pull, Arrive, Answer, Done, Sleep, Wake, Poll, Rx, Reap, Ampdu, Stop, Start, Unsent, GiveUp, Flush, Offload, Weight, Plain, Hold, Begin, Free, Cease, Group, Service}
 use Rattle.wf_frame.specs.declared.notes.Limits.{Limits}
 use Rattle.wf_frame.specs.declared.notes.Note.{Note}
 use Rattle.wf_frame.specs.declared.notes.Note.TheVariants.{Enqueue, Asked}
@@ -21,6 +21,7 @@ use Rattle.wf_def_codel.specs.Parameters.{params_at}
 use Rattle.wf_def_rotation.specs.Rotation.{Rotation, Picked, has_key, in_order, no_keys, with_new_key}
 use Rattle.wf_def_agreement.specs.Session.{request_due}
 use Rattle.wf_def_world.specs.World.{World, Station, Tid, Queue, Mpdu, no_tid, no_station, session, tid_of, queue, exchange, codel_params, with_station, on_station, on_tid, with_queues, on_queue, with_fate, with_frame_finished, with_frames_finished}
+use Rattle.wf_def_world.specs.Service.{station_served}
 use Rattle.wf_def_world.specs.FlowQueues.{Taken, calmed, without_head, after_limit, is_at_limit, longest_queue, queue_for, when_listed, with_listed_queue, with_appended, after_put_in, with_queues_paid, after_dequeue, taken_by_codel, taken_from_picked, picked_queue, taken_for_tid, after_queue_left, after_queues_left, after_queue_flushed, after_queues_flushed}
 use Rattle.wf_def_world.specs.CanSend.{can_give}
 use Rattle.wf_def_world.specs.Exchanges.{Aggregate, Prepared, most_frames, fits_in, waiting_mpdus, longest_fitting, fresh_mpdus, with_number, with_fresh, aggregate_of, prepared_data, prepared_exchange, picked_station, sending_tid, after_tid_turn}
@@ -554,6 +555,8 @@ codel_done (Asked (Poll s)) w q x h = codel_same q (shelves_hidden w s _ (λ x. 
 codel_done (Asked (Rx s c air)) w q x h = codel_same q (shelves_on_share w s c _) ∙ h
 codel_done (Asked Reap) w q x h = codel_same q (shelves_reaped w.finished w) ∙ h
 codel_done (Asked (Group ask)) w q x h = h
+codel_done (Asked (Service ask)) w q x h =
+    codel_same q (shelves_hidden w (station_served ask) _ (λ x. refl)) ∙ h
 
 codel_refused : (note : Note) (r : Refusal) (w : World) (q : ℕ) →
     (queue (after_refusal w note r) q).codel ≡ (queue w q).codel

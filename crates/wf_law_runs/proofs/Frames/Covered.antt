@@ -9,7 +9,7 @@ use Rattle.wf_def_agreement.specs.Session.{request_due, Session, Slot, State, sl
 use Rattle.wf_def_world.specs.World.{Mpdu, Exchange, tid_of, is_live, rotation, codel_params, with_queues, on_share, with_rotation, on_tid, on_station, with_station, World, Tid, Queue, Frame, no_frame, new_queue, queue, session, frame, accepted_count, on_queue, on_session, with_fate, with_frame_finished, with_frames_finished}
 use Rattle.wf_def_world.specs.FlowQueues.{len_given, with_queues_paid, taken_by_codel, taken_from_picked, picked_queue, taken_for_tid}
 use Rattle.wf_def_world.specs.CanSend.{is_ready}
-use Rattle.wf_def_world.specs.Exchanges.{Aggregate, Prepared, with_number, with_fresh, aggregate_of, longest_fitting, waiting_mpdus, most_frames, with_flying, prepared_data, prepared_exchange, sending_tid, after_tid_turn, after_pick, with_stations_paid, with_station_paid, picked_station, station_need, with_exchange_opened, without_credit, exchange_of}
+use Rattle.wf_def_world.specs.Exchanges.{Aggregate, Prepared, with_number, with_fresh, aggregate_of, longest_fitting, waiting_mpdus, most_frames, with_flying, prepared_data, prepared_exchange, sending_tid, after_tid_turn, after_pick, with_stations_paid, with_station_paid, picked_station, station_need, with_exchange_opened, exchange_of, with_spent}
 use Rattle.wf_def_world.specs.Step.{send_outcome, pull_outcome_for, pull_outcome}
 use Rattle.wf_law_runs.proofs.Sessions.Flights.{Rises, next-give}
 use Rattle.wf_law_runs.proofs.Windows.Agreement.{slot_give, slot_new, slot_same, slot_other}
@@ -202,10 +202,10 @@ same_queues : (w v : World) → v.queues ≡ w.queues → (q k : ℕ) → carrie
     carries (queue v q).items k ≡ true
 same_queues w v e q k h = ap (λ (qs : List Queue). carries (at new_queue qs q).items k) e ∙ h
 
-queues_spent : (w : World) (s q k : ℕ) → carries (queue w q).items k ≡ true →
-    carries (queue (without_credit w s) q).items k ≡ true
-unfolding without_credit on_station with_station
-queues_spent w s q k h = h
+queues_spent : (w : World) (x : Exchange) (q k : ℕ) → carries (queue w q).items k ≡ true →
+    carries (queue (with_spent w x) q).items k ≡ true
+unfolding with_spent on_station with_station
+queues_spent w x q k h = h
 
 queues_after_turn : (w : World) (s : ℕ) (c : Class) (t q k : ℕ) → carries (queue w q).items k ≡ true →
     carries (queue (after_tid_turn w s c t) q).items k ≡ true
@@ -450,8 +450,8 @@ unfolding send_outcome with_exchange_opened
 covers_sent s t c q k =
     let x : Exchange = exchange_of s t c q in
     let u : World = record q.world { exchanges = q.world.exchanges + 1; opened = q.world.opened ++ x ∷ [] } in
-    covers_calm u (without_credit u s) (λ q k h. queues_spent u s q k h)
-    (session_same u (without_credit u s) (same_spent u s)) (untouched_spent u s).frames
+    covers_calm u (with_spent u x) (λ q k h. queues_spent u x q k h)
+    (session_same u (with_spent u x) (same_spent u x)) (untouched_spent u x).frames
     (covers_calm q.world u (λ q k h. h) (λ i j. refl) refl k)
 
 covers_pulled_by : (o : Option ℕ) (l : List ℕ) (w : World) (c : Class) → IfSome o (λ s. is_live w s ≡ true) →

@@ -7,11 +7,12 @@ use Rattle.wf_def_lists.specs.Table.{at, has, with_member, put, upto}
 use Rattle.wf_def_codel.specs.Codel.{Item}
 use Rattle.wf_def_agreement.specs.Session.{End, request_due, waiting_numbers, with_state, Session, State, is_failed, slot, on_slot, with_number_given, next_number, has_room, start_of}
 use Rattle.wf_def_world.specs.World.{receiver, World, Mode, Station, Tid, Exchange, Mpdu, Content, Frames, Request, rotation, tid_of, session, is_live, exchange, with_mode, on_tid, with_station, on_station, on_session, on_receiver, on_queue, queue, with_exchange, without_exchange, no_frame, Frame}
+use Rattle.wf_def_world.specs.Service.{station_served}
 use Rattle.wf_frame.specs.Classes.{all_classes}
 use Rattle.wf_def_world.specs.FlowQueues.{after_limit, with_appended, after_put_in, taken_for_tid}
 use Rattle.wf_def_world.specs.CanSend.{is_ready, can_give}
-use Rattle.wf_def_world.specs.Exchanges.{end_of, is_acked, station_need, most_frames, picked_station, after_arrival, exchange_of, sending_tid, Prepared, mpdus_of, after_tid_turn, with_fresh, aggregate_of, with_number, fresh_mpdus, with_flying, waiting_mpdus, longest_fitting, without_credit, prepared_data, prepared_exchange, with_exchange_opened, after_charge, with_failed_finished, with_settled, with_all_settled, after_done, fits_in, mpdu_of, Aggregate}
-use Rattle.wf_frame.specs.declared.notes.Ask.TheVariants.{Join, Leave, Rate, Tick, Pull, Arrive, Answer, Done, Sleep, Wake, Poll, Rx, Reap, Ampdu, Stop, Start, Unsent, GiveUp, Flush, Offload, Weight, Plain, Hold, Begin, Free, Cease, Group}
+use Rattle.wf_def_world.specs.Exchanges.{end_of, is_acked, station_need, most_frames, picked_station, after_arrival, exchange_of, sending_tid, Prepared, mpdus_of, after_tid_turn, with_fresh, aggregate_of, with_number, fresh_mpdus, with_flying, waiting_mpdus, longest_fitting, prepared_data, prepared_exchange, with_exchange_opened, after_charge, with_failed_finished, with_settled, with_all_settled, after_done, fits_in, mpdu_of, Aggregate, with_spent}
+use Rattle.wf_frame.specs.declared.notes.Ask.TheVariants.{Join, Leave, Rate, Tick, Pull, Arrive, Answer, Done, Sleep, Wake, Poll, Rx, Reap, Ampdu, Stop, Start, Unsent, GiveUp, Flush, Offload, Weight, Plain, Hold, Begin, Free, Cease, Group, Service}
 use Rattle.wf_frame.specs.declared.notes.Limits.{Limits}
 use Rattle.wf_frame.specs.declared.notes.Note.{Note}
 use Rattle.wf_frame.specs.declared.notes.Note.TheVariants.{Enqueue, Asked}
@@ -233,14 +234,14 @@ labelled_sent s t c w p i r k a =
     let x : Exchange = exchange_of s t c p in
     let v : World = record p.world { exchanges = p.world.exchanges + 1; opened = p.world.opened ++ x ∷ [] } in
     let l : IsLabelled p.world = labelled_keep w p.world i k r.opened a in
-    let h : Same v (without_credit v s) = same_spent v s in
+    let h : Same v (with_spent v x) = same_spent v x in
     record {
-      labels = subst (Each (λ x. Labelled (session (without_credit v s) x.station x.tid)
-          (mpdus_of x.content))) (sym h.opened) (each_map
+      labels = subst (Each (λ y. Labelled (session (with_spent v x) y.station y.tid)
+          (mpdus_of y.content))) (sym h.opened) (each_map
           (λ x. Labelled (session p.world x.station x.tid) (mpdus_of x.content))
-          (λ x. Labelled (session (without_credit v s) x.station x.tid) (mpdus_of x.content)) v.opened
+          (λ y. Labelled (session (with_spent v x) y.station y.tid) (mpdus_of y.content)) v.opened
           (λ y b. subst (λ (z : Session). Labelled z (mpdus_of y.content))
-          (sym (session_same v (without_credit v s) h y.station y.tid)) b)
+          (sym (session_same v (with_spent v x) h y.station y.tid)) b)
           (each_append (λ x. Labelled (session p.world x.station x.tid) (mpdus_of x.content))
           p.world.opened x l.labels r.labels));
     }
@@ -683,7 +684,7 @@ less_sent : (P : ℕ → Type 0) (w : World) (s t : ℕ) (c : Class) (p : Prepar
     Less P w (send_outcome s t c p).world
 unfolding send_outcome with_exchange_opened
 less_sent P w s t c p h = then_less P w p.world _ h
-    (then_less P p.world _ _ (less_plain P p.world _ refl refl) (less_spent P _ s))
+    (then_less P p.world _ _ (less_plain P p.world _ refl refl) (less_spent P _ _))
 
 less_pulled_by : (o : Option ℕ) (P : ℕ → Type 0) (w : World) (c : Class) →
     Less P w (pull_outcome_for w c o).world
@@ -981,6 +982,7 @@ delivered_done (Asked (Rx s c air)) w i a e =
     }
 delivered_done (Asked Reap) w i a e = delivered_reaped _ w.finished w i a
 delivered_done (Asked (Group ask)) w i a e = delivered_plain _ w _ refl refl refl (λ id h. h) i a
+delivered_done (Asked (Service ask)) w i a e = delivered_station _ w (station_served ask) _ (λ x t. refl) i a
 delivered_done (Asked (Unsent x n)) w i a e = delivered_open _ (IsRead w) (exchange w x) w _ (read w i a x) a
     (λ y r. delivered_unsent _ w y n r a)
 delivered_done (Asked (GiveUp x n)) w i a e = delivered_open _ (IsRead w) (exchange w x) w _ (read w i a x) a

@@ -13,11 +13,12 @@ use Rattle.wf_def_rotation.specs.Rotation.{in_order, no_keys}
 use Rattle.wf_def_agreement.specs.Receiver.{Receiver, with_start}
 use Rattle.wf_def_agreement.specs.Session.{End, is_waiting, request_due, waiting_numbers, with_state, Session, Slot, State, is_settled, is_failed, slot_given_up, slot, on_slot, with_number_given, after_flush, new_session, next_number, numbers_where, no_slot, start_of}
 use Rattle.wf_def_world.specs.World.{World, Mode, Station, Share, Tid, Queue, Exchange, Mpdu, Content, Frames, Request, new_tid, rotation, session, tid_of, is_live, exchange, with_mode, with_station, on_station, on_tid, on_session, on_receiver, with_queues, on_share, on_queue, with_fate, with_frame_finished, with_frames_finished, with_exchange, without_exchange, opening, inside, is_held, no_frame, Frame, frame, new_queue, queue, accepted_count, codel_params}
+use Rattle.wf_def_world.specs.Service.{station_served}
 use Rattle.wf_frame.specs.Classes.{all_classes}
 use Rattle.wf_def_world.specs.FlowQueues.{without_head, after_limit, with_appended, after_put_in, with_queues_paid, taken_by_codel, taken_from_picked, taken_for_tid, after_queue_left, after_queues_left, after_queue_flushed, after_queues_flushed, len_given, picked_queue, queue_for, longest_queue, is_at_limit}
 use Rattle.wf_def_world.specs.CanSend.{is_ready, with_listings_of, can_give}
-use Rattle.wf_def_world.specs.Exchanges.{end_of, station_need, most_frames, picked_station, after_arrival, exchange_of, sending_tid, with_heard_start, Prepared, mpdus_of, after_pick, after_tid_turn, with_fresh, aggregate_of, with_number, with_flying, waiting_mpdus, longest_fitting, without_credit, prepared_data, prepared_exchange, with_exchange_opened, after_charge, with_failed_finished, with_settled, with_all_settled, after_done, ids_of, Aggregate, caught_up, caught_up_if_plain}
-use Rattle.wf_frame.specs.declared.notes.Ask.TheVariants.{Join, Leave, Rate, Tick, Pull, Arrive, Answer, Done, Sleep, Wake, Poll, Rx, Reap, Ampdu, Stop, Start, Unsent, GiveUp, Flush, Offload, Weight, Plain, Hold, Begin, Free, Cease, Group}
+use Rattle.wf_def_world.specs.Exchanges.{end_of, station_need, most_frames, picked_station, after_arrival, exchange_of, sending_tid, with_heard_start, Prepared, mpdus_of, after_pick, after_tid_turn, with_fresh, aggregate_of, with_number, with_flying, waiting_mpdus, longest_fitting, prepared_data, prepared_exchange, with_exchange_opened, after_charge, with_failed_finished, with_settled, with_all_settled, after_done, ids_of, Aggregate, caught_up, caught_up_if_plain, with_spent}
+use Rattle.wf_frame.specs.declared.notes.Ask.TheVariants.{Join, Leave, Rate, Tick, Pull, Arrive, Answer, Done, Sleep, Wake, Poll, Rx, Reap, Ampdu, Stop, Start, Unsent, GiveUp, Flush, Offload, Weight, Plain, Hold, Begin, Free, Cease, Group, Service}
 use Rattle.wf_frame.specs.declared.notes.Limits.{Limits}
 use Rattle.wf_frame.specs.declared.notes.Note.{Note}
 use Rattle.wf_frame.specs.declared.notes.Note.TheVariants.{Enqueue, Asked}
@@ -738,7 +739,7 @@ safe_sent l w s t c q k =
     let b : Fresh u = fresh_calm q.world u (less_plain Any q.world u refl refl) (λ i j. refl) refl k.fresh in
     then_safe l w u _ (then_stays w q.world u k.stays
     (stays_same q.world u (record { frames = refl; finished = refl })))
-    (safe_calm l u (without_credit u s) (less_spent Any u s) (same_spent u s) (untouched_spent u s) a b)
+    (safe_calm l u (with_spent u x) (less_spent Any u x) (same_spent u x) (untouched_spent u x) a b)
 
 safe_pulled_by : (o : Option ℕ) (l : List ℕ) (w : World) (c : Class) → IfSome o (λ s. is_live w s ≡ true) →
     IsLawful w → Placing l w → Fresh w → Safe l w (pull_outcome_for w c o).world
@@ -1941,6 +1942,7 @@ fates_done (Asked (Free s t)) l w i e a p h = fates_freed w s t h
 fates_done (Asked (Cease s t)) l w i e a p h = fates_ceased l w s t (not_no (is_live w s) e.1.1.0) p h
 fates_done (Asked (Group ask)) l w i e a p h =
     fates_plain w _ refl (record { frames = refl; finished = refl }) (λ s t. refl) h
+fates_done (Asked (Service ask)) l w i e a p h = fates_station w (station_served ask) _ (λ x t. refl) h
 
 fates_refused : (note : Note) (r : Refusal) (w : World) → Fresh w → Kept_fates 0 0 w (after_refusal w note r)
 unfolding after_refusal

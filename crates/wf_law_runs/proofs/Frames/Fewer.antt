@@ -14,7 +14,7 @@ use Rattle.wf_def_agreement.specs.Session.{Session}
 use Rattle.wf_def_world.specs.World.{World, Station, Share, Tid, Queue, Exchange, with_station, on_station, on_tid, on_session, on_receiver, with_queues, on_share, on_queue, with_rotation, with_mode, with_fate, with_frame_finished, with_frames_finished, Frame, no_frame, frame, new_queue, queue, accepted_count, codel_params}
 use Rattle.wf_def_world.specs.FlowQueues.{without_head, after_limit, with_listed_queue, with_queues_paid, taken_by_codel, taken_from_picked, taken_for_tid, after_queue_left, after_queues_left}
 use Rattle.wf_def_world.specs.CanSend.{with_listing_in, with_listings_in, with_listings_of}
-use Rattle.wf_def_world.specs.Exchanges.{with_station_paid, with_stations_paid, after_pick, after_tid_turn, without_credit, after_charge, caught_up, caught_up_if_plain}
+use Rattle.wf_def_world.specs.Exchanges.{with_station_paid, with_stations_paid, after_pick, after_tid_turn, after_charge, caught_up, caught_up_if_plain, with_spent}
 use Rattle.wf_def_world.specs.Step.{with_deficits_lowered, weight_outcome, hold_outcome, free_outcome, begin_outcome, cease_outcome, after_numbers_ended}
 use Rattle.wf_frame.specs.Classes.{all_classes}
 use Rattle.wf_law_runs.proofs.Common.Flushes.{if_caught}
@@ -274,9 +274,9 @@ pub less_after_turn : (P : ℕ → Type 0) (w : World) (s : ℕ) (c : Class) (t 
 unfolding after_tid_turn
 less_after_turn P w s c t = less_on_share P w s c _
 
-pub less_spent : (P : ℕ → Type 0) (w : World) (s : ℕ) → Less P w (without_credit w s)
-unfolding without_credit
-less_spent P w s = less_on_station P w s _
+pub less_spent : (P : ℕ → Type 0) (w : World) (x : Exchange) → Less P w (with_spent w x)
+unfolding with_spent
+less_spent P w x = less_on_station P w x.station _
 
 less_without_head : (P : ℕ → Type 0) (items : List Item) (w : World) (q : ℕ) → (queue w q).items ≡ items →
     Less P w (without_head w q items)

@@ -7,7 +7,7 @@ use Rattle.wf_def_agreement.specs.Session.{End, Slot, State, slot, is_settled, n
 use Rattle.wf_def_world.specs.World.{Mode, Tid, with_mode, Frame, no_frame, Mpdu, Exchange, Content, Frames, Request, queue, tid_of, is_live, rotation, on_queue, with_queues, on_tid, on_station, with_station, with_frame_finished, without_exchange, World, session, frame, on_session}
 use Rattle.wf_def_world.specs.FlowQueues.{queue_need, has_frames, with_queues_paid, taken_by_codel, taken_from_picked, picked_queue, taken_for_tid}
 use Rattle.wf_def_world.specs.CanSend.{is_ready}
-use Rattle.wf_def_world.specs.Exchanges.{Aggregate, Prepared, with_number, with_fresh, aggregate_of, longest_fitting, waiting_mpdus, most_frames, with_flying, prepared_data, prepared_exchange, sending_tid, after_tid_turn, picked_station, station_need, with_exchange_opened, without_credit, exchange_of, with_heard_start, after_charge, with_settled, with_failed_finished, with_all_settled, after_done, caught_up, caught_up_if_plain}
+use Rattle.wf_def_world.specs.Exchanges.{Aggregate, Prepared, with_number, with_fresh, aggregate_of, longest_fitting, waiting_mpdus, most_frames, with_flying, prepared_data, prepared_exchange, sending_tid, after_tid_turn, picked_station, station_need, with_exchange_opened, exchange_of, with_heard_start, after_charge, with_settled, with_failed_finished, with_all_settled, after_done, caught_up, caught_up_if_plain, with_spent}
 use Rattle.wf_def_world.specs.Step.{send_outcome, pull_outcome_for, pull_outcome, done_outcome, flush_outcome, hold_outcome, begin_outcome, free_outcome, cease_outcome, after_numbers_ended, plain_window}
 use Rattle.wf_law_runs.specs.Queues.{EachItem, IsFor}
 use Rattle.wf_law_rules.proofs.Lemmas.Numbers.{on_bool, lt_yes, lt_no}
@@ -265,7 +265,7 @@ unfolding send_outcome with_exchange_opened
 owned_sent s t c q o =
     let x : Exchange = exchange_of s t c q in
     let u : World = record q.world { exchanges = q.world.exchanges + 1; opened = q.world.opened ++ x ∷ [] } in
-    owned_calm u (without_credit u s) (same_spent u s) (untouched_spent u s).frames
+    owned_calm u (with_spent u x) (same_spent u x) (untouched_spent u x).frames
     (owned_along q.world u (slots_same q.world u (λ i j. refl)) (record { same = λ k. refl }) o)
 
 owned_pulled_by : (r : Option ℕ) (most : ℕ) (w : World) (c : Class) → IfSome r (λ s. is_live w s ≡ true) →

@@ -5,7 +5,7 @@ use Rattle.wf_frame.specs.Settings.{IsInRange}
 use Rattle.wf_frame.specs.declared.classes.Class.{Class}
 use Rattle.wf_frame.specs.declared.classes.Cause.TheVariants.{Overlimit, Left}
 use Rattle.wf_frame.specs.declared.classes.Fate.TheVariants.{Dropped}
-use Rattle.wf_frame.specs.declared.notes.Ask.TheVariants.{Join, Leave, Rate, Tick, Pull, Arrive, Answer, Done, Sleep, Wake, Poll, Rx, Reap, Ampdu, Stop, Start, Unsent, GiveUp, Flush, Offload, Weight, Plain, Hold, Begin, Free, Cease, Group}
+use Rattle.wf_frame.specs.declared.notes.Ask.TheVariants.{Join, Leave, Rate, Tick, Pull, Arrive, Answer, Done, Sleep, Wake, Poll, Rx, Reap, Ampdu, Stop, Start, Unsent, GiveUp, Flush, Offload, Weight, Plain, Hold, Begin, Free, Cease, Group, Service}
 use Rattle.wf_frame.specs.declared.notes.Note.{Note}
 use Rattle.wf_frame.specs.declared.notes.Note.TheVariants.{Enqueue, Asked}
 use Rattle.wf_frame.specs.declared.notes.Refusal.{Refusal}
@@ -15,6 +15,7 @@ use Rattle.wf_def_lists.specs.Table.{at, has, upto, with_member}
 use Rattle.wf_def_codel.specs.Codel.{Item}
 use Rattle.wf_def_agreement.specs.Session.{Session, State, slot, is_settled, next_number, new_session}
 use Rattle.wf_def_world.specs.World.{World, Mode, Queue, Station, Exchange, Frame, Share, new_queue, on_queue, on_receiver, on_tid, with_queues, with_rotation, rotation, no_frame, new_tid, queue, session, frame, accepted_count, exchange, with_station, on_station, on_share, with_exchange, opening}
+use Rattle.wf_def_world.specs.Service.{station_served}
 use Rattle.wf_def_world.specs.FlowQueues.{is_at_limit, longest_queue, without_head, after_limit, queue_for, after_put_in, after_queue_left, after_queues_left}
 use Rattle.wf_def_world.specs.Exchanges.{after_arrival, after_pick}
 use Rattle.wf_def_rotation.specs.Rotation.{in_order}
@@ -353,6 +354,7 @@ stood_done (Asked (Poll s)) l most w k r f h i = stood_station w s _ (λ x t. re
 stood_done (Asked (Rx s c air)) l most w k r f h i = stood_share w s c _ i
 stood_done (Asked Reap) l most w k r f h i = stood_reaped w.finished w i
 stood_done (Asked (Group ask)) l most w k r f h i = stood_plain w _ refl refl refl i
+stood_done (Asked (Service ask)) l most w k r f h i = stood_station w (station_served ask) _ (λ x t. refl) i
 stood_done (Asked (Unsent x n)) l most w k r f h i =
     stood_open (IsFoundNamed w k.lawful) (exchange w x) w _ (found_named w k.lawful k.labelled x) i
     (λ y g. stood_unsent w y n i)

@@ -10,7 +10,7 @@ use Rattle.wf_def_agreement.specs.Session.{Session}
 use Rattle.wf_def_world.specs.World.{World, Station, Tid, Queue, Exchange, rotation, with_mode, with_station, on_station, on_tid, on_session, on_receiver, with_queues, on_share, on_queue, with_rotation, without_exchange}
 use Rattle.wf_def_world.specs.FlowQueues.{with_listed_queue, with_appended, after_put_in, with_queues_paid}
 use Rattle.wf_def_world.specs.CanSend.{with_listing_in, with_listings_in, with_listings_of}
-use Rattle.wf_def_world.specs.Exchanges.{with_station_paid, with_stations_paid, after_pick, after_tid_turn, without_credit, after_charge, caught_up, caught_up_if_plain}
+use Rattle.wf_def_world.specs.Exchanges.{with_station_paid, with_stations_paid, after_pick, after_tid_turn, after_charge, caught_up, caught_up_if_plain, with_spent}
 use Rattle.wf_def_world.specs.Step.{without_listings, with_deficits_lowered, weight_outcome, hold_outcome, begin_outcome, free_outcome, cease_outcome, after_numbers_ended}
 use Rattle.wf_law_runs.proofs.Common.Picked.{picked_world}
 use Rattle.wf_law_runs.proofs.Common.Flushes.{if_caught}
@@ -58,9 +58,9 @@ pub untouched_with_queues : (w : World) (s t : ℕ) (r : Rotation) → Untouched
 unfolding with_queues
 untouched_with_queues w s t r = untouched_on_tid w s t _
 
-pub untouched_spent : (w : World) (s : ℕ) → Untouched w (without_credit w s)
-unfolding without_credit
-untouched_spent w s = untouched_on_station w s _
+pub untouched_spent : (w : World) (x : Exchange) → Untouched w (with_spent w x)
+unfolding with_spent
+untouched_spent w x = untouched_on_station w x.station _
 
 pub untouched_after_turn : (w : World) (s : ℕ) (c : Class) (t : ℕ) → Untouched w (after_tid_turn w s c t)
 unfolding after_tid_turn on_share

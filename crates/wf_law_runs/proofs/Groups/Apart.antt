@@ -11,7 +11,7 @@ use Rattle.wf_frame.specs.declared.notes.Refusal.TheVariants.{Idle}
 use Rattle.wf_def_world.specs.Group.{GroupState}
 use Rattle.wf_def_world.specs.World.{World, on_station, with_station}
 use Rattle.wf_def_world.specs.CanSend.{with_listings_of}
-use Rattle.wf_def_world.specs.Exchanges.{Prepared, picked_station, after_tid_turn, without_credit, with_exchange_opened}
+use Rattle.wf_def_world.specs.Exchanges.{Prepared, picked_station, after_tid_turn, with_exchange_opened, with_spent}
 use Rattle.wf_def_world.specs.Refusals.{refusal}
 use Rattle.wf_def_world.specs.Step.{tick_outcome, send_outcome, pull_outcome_for, pull_outcome, outcome_of, concerned_station, after_refusal, judged_outcome, step}
 use Rattle.wf_law_runs.specs.Groups.{is_about_group, GroupApartLaw}
@@ -26,7 +26,7 @@ abbrev Has : GroupState → Fixed → Type 0
 Has g x = x.group ≡ g
 
 group_sent : (s t : ℕ) (c : Class) (p : Prepared) → (send_outcome s t c p).world.group ≡ p.world.group
-unfolding send_outcome without_credit with_exchange_opened on_station with_station
+unfolding send_outcome with_spent with_exchange_opened on_station with_station
 group_sent s t c p = refl
 
 group_pulled_by : (o : Option ℕ) (w : World) (c : Class) → (pull_outcome_for w c o).world.group ≡ w.group

@@ -6,13 +6,13 @@ use Rattle.wf_frame.specs.declared.notes.GroupAsk.{GroupAsk}
 use Rattle.wf_frame.specs.declared.notes.GroupAsk.TheVariants as group
 use Rattle.wf_frame.specs.declared.notes.GroupReply.{GroupReply}
 use Rattle.wf_frame.specs.declared.notes.GroupReply.TheVariants as answer
-use Rattle.wf_frame.specs.declared.notes.Note.{Note}
 use Rattle.wf_frame.specs.declared.notes.ReplyNote.{ReplyNote}
 use Rattle.wf_frame.specs.declared.notes.ReplyNote.TheVariants as reply
 use Rattle.wf_def_world.specs.Group.{GroupState, group_after, group_answer}
 use Rattle.wf_def_world.specs.World.{World, opening, is_any_asleep}
+use Rattle.wf_law_runs.proofs.Common.Moments.{entry}
 use Rattle.wf_def_world.specs.Step.{Outcome, step}
-use Rattle.wf_def_world.specs.Run.{Entry, replies, world_after}
+use Rattle.wf_def_world.specs.Run.{Entry}
 use Rattle.wf_def_world.specs.Stretches.{world_at}
 use Rattle.wf_law_runs.specs.Groups.{reply_at_entry}
 use Rattle.wf_law_runs.proofs.Deficits.Configs.{config_run}
@@ -31,28 +31,6 @@ take_none [] zero e = refl
 take_none [] (suc m) e = refl
 take_none (y ∷ xs) zero e = absurd (cc e)
 take_none (y ∷ xs) (suc m) e = ap (λ zs. y ∷ zs) (take_none xs m e)
-
--- ---- an entry of a history
-
--- There is no entry m.
-record IsPast (w : World) (h : List Entry) (m : ℕ) : Type 0 where
-  reply : slice_get (replies w h) m ≡ None
-  world : world_after w (take (suc m) h) ≡ world_after w (take m h)
-
--- Entry m is this call.
-record IsEntry (w : World) (h : List Entry) (m : ℕ) (note : Note) : Type 0 where
-  reply : slice_get (replies w h) m ≡ Some (step (world_after w (take m h)) note).reply
-  world : world_after w (take (suc m) h) ≡ (step (world_after w (take m h)) note).world
-
-entry : (h : List Entry) (w : World) (m : ℕ) → IsPast w h m ⊎ ((note : Note) × IsEntry w h m note)
-unfolding replies world_after
-entry [] w zero = inl (record { reply = refl; world = refl })
-entry [] w (suc m) = inl (record { reply = refl; world = refl })
-entry (e ∷ es) w zero = inr (e.1, record { reply = refl; world = refl })
-entry (e ∷ es) w (suc m) = elim (entry es (step w e.1).world m) [
-  | inl past ↦ inl (record { reply = past.reply; world = past.world })
-  | inr found ↦ inr (found.0, record { reply = found.1.reply; world = found.1.world })
-]
 
 -- ---- the group frames at an entry
 

@@ -67,7 +67,7 @@ module _ (R : World → World → Type 0)
       R w (send_outcome s t c p).world
   unfolding send_outcome
   along_sent w s t c p h = chain w p.world _ h
-      (chain p.world _ _ (opens p.world (exchange_of s t c p)) (here _ _ (same_spent _ s)))
+      (chain p.world _ _ (opens p.world (exchange_of s t c p)) (here _ _ (same_spent _ _)))
 
   along_pulled_by : (o : Option ℕ) (w : World) (c : Class) → IfSome o (λ s. is_live w s ≡ true) →
       IsLawful w → R w (pull_outcome_for w c o).world

@@ -3,7 +3,7 @@
 use Rattle.std.proofs.Common.{◌≡◌, ◌≢◌, refl, ap, sym, ◌∙◌, subst, ℕ, zero, suc, ◌-◌, Bool, true, false, if◌then◌else◌, not, ◌&&◌, ◌==◌, List, [], ◌∷◌, length, Option, Some, None, is_some, unwrap_or, option_map}
 use Rattle.wf_frame.specs.declared.classes.Class.{Class}
 use Rattle.wf_frame.specs.declared.classes.Fate.{Fate}
-use Rattle.wf_frame.specs.declared.notes.Ask.TheVariants.{Join, Leave, Rate, Tick, Pull, Arrive, Answer, Done, Sleep, Wake, Poll, Rx, Reap, Ampdu, Stop, Start, Unsent, GiveUp, Flush, Offload, Weight, Hold, Begin, Free, Cease, Group}
+use Rattle.wf_frame.specs.declared.notes.Ask.TheVariants.{Join, Leave, Rate, Tick, Pull, Arrive, Answer, Done, Sleep, Wake, Poll, Rx, Reap, Ampdu, Stop, Start, Unsent, GiveUp, Flush, Offload, Weight, Hold, Begin, Free, Cease, Group, Service}
 use Rattle.wf_frame.specs.declared.notes.Ask.TheVariants as call
 use Rattle.wf_frame.specs.declared.notes.Limits.{Limits}
 use Rattle.wf_frame.specs.declared.notes.Note.{Note}
@@ -17,9 +17,10 @@ use Rattle.wf_def_rotation.specs.Rotation.{Rotation}
 use Rattle.wf_def_agreement.specs.Receiver.{Receiver}
 use Rattle.wf_def_agreement.specs.Session.{Session, End, request_due}
 use Rattle.wf_def_world.specs.World.{World, Station, Share, Tid, Queue, Exchange, Mpdu, Content, Frames, Request, no_tid, no_station, tid_of, session, is_live, exchange, with_station, on_station, on_tid, on_session, on_receiver, with_queues, on_share, on_queue, with_rotation, with_mode, with_fate, with_exchange, without_exchange, with_frame_finished, with_frames_finished}
+use Rattle.wf_def_world.specs.Service.{station_served}
 use Rattle.wf_def_world.specs.FlowQueues.{without_head, after_limit, with_listed_queue, with_appended, after_put_in, with_queues_paid, taken_by_codel, taken_from_picked, taken_for_tid, after_queue_left, after_queues_left}
 use Rattle.wf_def_world.specs.CanSend.{can_give, with_listing_in, with_listings_in, with_listings_of}
-use Rattle.wf_def_world.specs.Exchanges.{Aggregate, Prepared, most_frames, picked_station, after_arrival, sending_tid, waiting_mpdus, longest_fitting, with_station_paid, with_stations_paid, after_pick, after_tid_turn, without_credit, with_number, with_fresh, aggregate_of, prepared_data, prepared_exchange, with_exchange_opened, after_charge, with_failed_finished, with_settled, with_all_settled, caught_up, caught_up_if_plain, after_done}
+use Rattle.wf_def_world.specs.Exchanges.{Aggregate, Prepared, most_frames, picked_station, after_arrival, sending_tid, waiting_mpdus, longest_fitting, with_station_paid, with_stations_paid, after_pick, after_tid_turn, with_number, with_fresh, aggregate_of, prepared_data, prepared_exchange, with_exchange_opened, after_charge, with_failed_finished, with_settled, with_all_settled, caught_up, caught_up_if_plain, after_done, with_spent}
 use Rattle.wf_def_world.specs.Refusals.{refusals, refusal}
 use Rattle.wf_def_world.specs.Step.{Outcome, join_outcome, offload_outcome, plain_outcome, leave_outcome, after_tid_left, after_tids_left, without_listings, rate_outcome, tick_outcome, with_frame, enqueue_outcome, send_outcome, pull_outcome_for, pull_outcome, arrive_outcome, answer_outcome, unsent_outcome, give_up_outcome, flush_outcome, done_outcome, outcome_where_open, sleep_outcome, wake_outcome, poll_outcome, rx_outcome, reap_outcome, with_deficits_lowered, weight_outcome, hold_outcome, begin_outcome, free_outcome, cease_outcome, after_numbers_ended, concerned_station, outcome_of, after_refusal, judged_outcome, step}
 use Rattle.wf_law_rules.proofs.Lemmas.Tables.{each_put, at_put_same, at_put_other}
@@ -221,15 +222,15 @@ unfolding prepared_exchange
 modes_prepared w s t = modes_prepared_if (request_due (session w s t)) w _ _ (modes_here w)
     (modes_frames w s t (aggregate_of w s t) (modes_filled w s t))
 
-modes_spent : (w : World) (s : ℕ) → SameModes w (without_credit w s)
-unfolding without_credit
-modes_spent w s = modes_on_station w s _ (λ x. refl)
+modes_spent : (w : World) (x : Exchange) → SameModes w (with_spent w x)
+unfolding with_spent
+modes_spent w x = modes_on_station w x.station _ (λ y. refl)
 
 modes_sent : (w : World) (s t : ℕ) (c : Class) (p : Prepared) → SameModes w p.world →
     SameModes w (send_outcome s t c p).world
 unfolding send_outcome with_exchange_opened
 modes_sent w s t c p h = then_modes w p.world _ h
-    (then_modes p.world _ _ (modes_plain p.world _ refl) (modes_spent _ s))
+    (then_modes p.world _ _ (modes_plain p.world _ refl) (modes_spent _ _))
 
 modes_after_turn : (w : World) (s : ℕ) (c : Class) (t : ℕ) → SameModes w (after_tid_turn w s c t)
 unfolding after_tid_turn
@@ -491,6 +492,8 @@ stays_done (Asked (Begin s t window)) w r = stays_begun w s t window
 stays_done (Asked (Free s t)) w r = stays_freed w s t
 stays_done (Asked (Cease s t)) w r = stays_ceased w s t
 stays_done (Asked (Group ask)) w r = stays_same _ w _ (modes_plain w _ refl)
+stays_done (Asked (Service ask)) w r =
+    stays_same _ w _ (modes_on_station w (station_served ask) _ (λ x. refl))
 
 modes_refused : (note : Note) (r : Refusal) (w : World) → SameModes w (after_refusal w note r)
 unfolding after_refusal

@@ -7,7 +7,7 @@ use Rattle.std.proofs.lemmas.Nat.{div-add-mod'}
 use Rattle.wf_frame.specs.declared.settings.Config.{Config}
 use Rattle.wf_frame.specs.Settings.{IsInRange}
 use Rattle.wf_frame.specs.declared.classes.Class.{Class}
-use Rattle.wf_frame.specs.declared.notes.Ask.TheVariants.{Join, Leave, Rate, Tick, Pull, Arrive, Answer, Done, Sleep, Wake, Poll, Rx, Reap, Ampdu, Stop, Start, Unsent, GiveUp, Flush, Offload, Weight, Hold, Begin, Free, Cease, Group}
+use Rattle.wf_frame.specs.declared.notes.Ask.TheVariants.{Join, Leave, Rate, Tick, Pull, Arrive, Answer, Done, Sleep, Wake, Poll, Rx, Reap, Ampdu, Stop, Start, Unsent, GiveUp, Flush, Offload, Weight, Hold, Begin, Free, Cease, Group, Service}
 use Rattle.wf_frame.specs.declared.notes.Ask.TheVariants as call
 use Rattle.wf_frame.specs.declared.notes.Limits.{Limits}
 use Rattle.wf_frame.specs.declared.notes.Note.{Note}
@@ -18,6 +18,7 @@ use Rattle.wf_def_lists.specs.Table.{at, has, with_member, upto}
 use Rattle.wf_def_agreement.specs.Receiver.{Receiver, with_arrived, score}
 use Rattle.wf_def_agreement.specs.Session.{Session, Slot, State, End, slot, on_slot, is_settled, start_of, next_number, with_number_given, after_flush, slot_flushed, with_state, is_failed}
 use Rattle.wf_def_world.specs.World.{World, Station, Mode, Plain, Agreed, Exchange, Mpdu, Content, Frames, Request, new_tid, rotation, session, receiver, is_live, is_offloaded, is_agreed, is_plain, is_held_back, exchange, with_station, on_session, on_receiver, with_exchange, without_exchange, opening}
+use Rattle.wf_def_world.specs.Service.{station_served}
 use Rattle.wf_def_world.specs.CanSend.{is_request, is_ready, with_listings_of}
 use Rattle.wf_def_world.specs.Exchanges.{Prepared, no_mpdu, transmissions, after_arrival, number_at, numbers_unsent, mpdus_of, station_need, picked_station, sending_tid, after_tid_turn, exchange_of, prepared_exchange, with_exchange_opened, with_flying, end_of, is_far, repeat_distance, with_settled, with_all_settled, with_failed_finished, caught_up, caught_up_if_plain, after_done}
 use Rattle.wf_def_world.specs.Refusals.{refusals, refusal, open_of_station}
@@ -1123,6 +1124,8 @@ repeats_done (Asked (Free s t)) w i j r h =
 repeats_done (Asked (Cease s t)) w i j r h = repeats_ceased w s t i r h
 repeats_done (Asked (Group ask)) w i j r h = repeats_calm w _ i j (keep_plain w _ refl)
     (record { moves = λ s t. moves_refl (session w s t) }) refl h
+repeats_done (Asked (Service ask)) w i j r h =
+    repeats_same w _ i j (same_on_station w (station_served ask) _ (λ x t. refl)) h
 
 repeats_refused : (note : Note) (r : Refusal) (w : World) → IsLawful w → Repeats w → Repeats
     (after_refusal w note r)

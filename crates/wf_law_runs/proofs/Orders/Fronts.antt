@@ -279,7 +279,7 @@ first_sent : (s t : ℕ) (c : Class) (p : Prepared) → IsAbove p.content (sessi
 unfolding send_outcome with_exchange_opened
 first_sent s t c p h =
     let x : Exchange = exchange_of s t c p in
-    let k : Same (with_exchange_opened p.world x) _ = same_spent (with_exchange_opened p.world x) s in
+    let k : Same (with_exchange_opened p.world x) _ = same_spent (with_exchange_opened p.world x) x in
     record {
       opens = record {
         exchange = x;
@@ -292,7 +292,8 @@ first_sent s t c p h =
 first_pulled_by : (o : Option ℕ) (w : World) (c : Class) → IfSome o (λ s. is_live w s ≡ true) → IsLawful w →
     NoneOrFirst (pull_outcome_for w c o)
 unfolding pull_outcome_for
-first_pulled_by None w c live i = inl (record { tries = λ k. refl; frames = refl; exchanges = refl })
+first_pulled_by None w c live i =
+    inl (record { tries = λ k. refl; frames = refl; exchanges = refl; receiver = λ s. refl })
 first_pulled_by (Some s) w c live i =
     let k : Same w (after_tid_turn w s c (sending_tid w s c)) = same_after_turn w s c (sending_tid w s c) in
     inr (first_sent s _ c _ (above_prepared _ s _ (lawful_same _ _ k i) (k.live s ∙ live)))
@@ -309,7 +310,8 @@ first_pulled w c l i =
 first_judged : (o : Option Refusal) (w : World) (c : Class) (l : Limits) → IsLawful w →
     NoneOrFirst (judged_outcome w (Asked (Pull c l)) o)
 unfolding judged_outcome outcome_of
-first_judged (Some r) w c l i = inl (record { tries = λ k. refl; frames = refl; exchanges = refl })
+first_judged (Some r) w c l i =
+    inl (record { tries = λ k. refl; frames = refl; exchanges = refl; receiver = λ s. refl })
 first_judged None w c l i = elim (first_pulled w c l i) [
   | inl h ↦ inl h
   | inr h ↦

@@ -199,14 +199,14 @@ unfolding ids_in
 batch_ids [] = refl
 batch_ids (m ∷ ms) = ap (λ (ids : List ℕ). m.id ∷ ids) (batch_ids ms)
 
-sent_ids : (batch plain : Bool) (c : Content) (number station tid air : ℕ) (more : Bool) →
-    ids_sent_by (Send number station tid air (part_of batch plain c) more) ≡ ids_in (mpdus_of c)
+sent_ids : (batch plain : Bool) (c : Content) (number station tid air : ℕ) (more eosp : Bool) →
+    ids_sent_by (Send number station tid air (part_of batch plain c) more eosp) ≡ ids_in (mpdus_of c)
 unfolding ids_in
-sent_ids false false (Frames ms) number station tid air more = named_ids ms
-sent_ids false true (Frames ms) number station tid air more = named_ids ms
-sent_ids true plain (Frames ms) number station tid air more = batch_ids ms
-sent_ids false plain (Request start) number station tid air more = refl
-sent_ids true plain (Request start) number station tid air more = refl
+sent_ids false false (Frames ms) number station tid air more eosp = named_ids ms
+sent_ids false true (Frames ms) number station tid air more eosp = named_ids ms
+sent_ids true plain (Frames ms) number station tid air more eosp = batch_ids ms
+sent_ids false plain (Request start) number station tid air more eosp = refl
+sent_ids true plain (Request start) number station tid air more eosp = refl
 
 count_some : (ms : List (ℕ × ℕ)) (k : ℕ) → has (map (λ (m : ℕ × ℕ). m.0) ms) k ≡ true → 1 ≤ count_of k ms
 count_some [] k h = absurd (cc h)
@@ -251,16 +251,16 @@ ids_none (i ∷ ids) k h = go (i == k) refl (ids_none ids k) h
     go false e f d whole = rw whole (rw e (omega (arith, f (rw e at d))))
 
 some_tries : (r : ReplyNote) (k : ℕ) → has (ids_sent_by r) k ≡ true → 1 ≤ tries_by k r
-some_tries (Send exchange station tid air (Mpdus ms) more) k h = count_some ms k h
-some_tries (Send exchange station tid air (Batch ids) more) k h = ids_some ids k h
-some_tries (Send exchange station tid air (Plain ms) more) k h = count_some ms k h
+some_tries (Send exchange station tid air (Mpdus ms) more eosp) k h = count_some ms k h
+some_tries (Send exchange station tid air (Batch ids) more eosp) k h = ids_some ids k h
+some_tries (Send exchange station tid air (Plain ms) more eosp) k h = count_some ms k h
 some_tries _ k h = absurd (cc h)
 
 no_tries : (r : ReplyNote) (k : ℕ) → has (ids_sent_by r) k ≡ false → tries_by k r ≡ 0
-no_tries (Send exchange station tid air (Mpdus ms) more) k h = count_none ms k h
-no_tries (Send exchange station tid air (Batch ids) more) k h = ids_none ids k h
-no_tries (Send exchange station tid air (Plain ms) more) k h = count_none ms k h
-no_tries (Send exchange station tid air (Asks start) more) k h = refl
+no_tries (Send exchange station tid air (Mpdus ms) more eosp) k h = count_none ms k h
+no_tries (Send exchange station tid air (Batch ids) more eosp) k h = ids_none ids k h
+no_tries (Send exchange station tid air (Plain ms) more eosp) k h = count_none ms k h
+no_tries (Send exchange station tid air (Asks start) more eosp) k h = refl
 no_tries _ k h = refl
 
 filter_in : (test : ℕ → Bool) (xs : List ℕ) (k : ℕ) → has xs k ≡ true → test k ≡ true →
@@ -520,7 +520,7 @@ in_turn_step flows q r l w note y p k flying f = elim (first_step w note y.lawfu
         at_some (λ u. Labelled (session v u.station u.tid) (mpdus_of u.content)) v.opened z
         y'.labelled.labels x.opens.among in
         let named : ids ≡ ids_in ms = ap ids_sent_by x.opens.reply
-        ∙ sent_ids z.batch z.plain z.content z.number z.station z.tid z.charge z.more in
+        ∙ sent_ids z.batch z.plain z.content z.number z.station z.tid z.charge z.more z.eosp in
         all (λ a e.
         let c : IsSentAt (session v z.station z.tid) ms a =
         sent_at ms (session v z.station z.tid) a labels

@@ -7,7 +7,7 @@ use Rattle.std.proofs.Common.{◌≡◌, refl, sym, subst, arith, ℕ, zero, suc
 use Rattle.std.proofs.lemmas.Bool.{leb-false, ltb-false}
 use Rattle.wf_frame.specs.declared.settings.Config.{Config}
 use Rattle.wf_frame.specs.Settings.{IsInRange}
-use Rattle.wf_frame.specs.declared.notes.Ask.TheVariants.{Join, Leave, Rate, Tick, Pull, Arrive, Answer, Done, Sleep, Wake, Poll, Rx, Reap, Ampdu, Stop, Start, Unsent, GiveUp, Flush, Offload, Weight, Plain, Hold, Begin, Free, Cease, Group}
+use Rattle.wf_frame.specs.declared.notes.Ask.TheVariants.{Join, Leave, Rate, Tick, Pull, Arrive, Answer, Done, Sleep, Wake, Poll, Rx, Reap, Ampdu, Stop, Start, Unsent, GiveUp, Flush, Offload, Weight, Plain, Hold, Begin, Free, Cease, Group, Service}
 use Rattle.wf_frame.specs.declared.notes.Note.{Note}
 use Rattle.wf_frame.specs.declared.notes.Note.TheVariants.{Enqueue, Asked}
 use Rattle.wf_frame.specs.declared.notes.Refusal.{Refusal}
@@ -16,6 +16,7 @@ use Rattle.wf_def_lists.specs.Table.{has}
 use Rattle.wf_def_codel.specs.Codel.{Item}
 use Rattle.wf_def_rotation.specs.Rotation.{in_order}
 use Rattle.wf_def_world.specs.World.{World, tid_of, queue, exchange, opening}
+use Rattle.wf_def_world.specs.Service.{station_served}
 use Rattle.wf_def_world.specs.Refusals.{refusals, refusal}
 use Rattle.wf_def_world.specs.Step.{tick_outcome, rate_outcome, sleep_outcome, wake_outcome, poll_outcome, rx_outcome, unsent_outcome, give_up_outcome, outcome_of, after_refusal, judged_outcome, step, concerned_station}
 use Rattle.wf_def_world.specs.Run.{Entry, world_after}
@@ -90,6 +91,8 @@ shelved_done (Asked (Rx s c air)) l most w r short p i =
     subst (IsShelved most) (sym (shelves_on_share w s c _)) i
 shelved_done (Asked Reap) l most w r short p i = subst (IsShelved most) (sym (shelves_reaped w.finished w)) i
 shelved_done (Asked (Group ask)) l most w r short p i = i
+shelved_done (Asked (Service ask)) l most w r short p i =
+    subst (IsShelved most) (sym (shelves_hidden w (station_served ask) _ (λ x. refl))) i
 
 shelved_refused : (note : Note) (r : Refusal) (most : ℕ) (w : World) → IsShelved most (shelves w) →
     IsShelved most (shelves (after_refusal w note r))

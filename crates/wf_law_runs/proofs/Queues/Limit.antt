@@ -7,7 +7,7 @@ use Rattle.std.specs.Prelude.{sum_by}
 use Rattle.wf_frame.specs.declared.settings.Config.{Config}
 use Rattle.wf_frame.specs.Settings.{IsInRange}
 use Rattle.wf_frame.specs.declared.notes.Ask.{Ask}
-use Rattle.wf_frame.specs.declared.notes.Ask.TheVariants.{Join, Leave, Rate, Tick, Pull, Arrive, Answer, Done, Sleep, Wake, Poll, Rx, Reap, Ampdu, Stop, Start, Unsent, GiveUp, Flush, Offload, Weight, Plain, Hold, Begin, Free, Cease, Group}
+use Rattle.wf_frame.specs.declared.notes.Ask.TheVariants.{Join, Leave, Rate, Tick, Pull, Arrive, Answer, Done, Sleep, Wake, Poll, Rx, Reap, Ampdu, Stop, Start, Unsent, GiveUp, Flush, Offload, Weight, Plain, Hold, Begin, Free, Cease, Group, Service}
 use Rattle.wf_frame.specs.declared.notes.Note.{Note}
 use Rattle.wf_frame.specs.declared.notes.Note.TheVariants.{Enqueue, Asked}
 use Rattle.wf_frame.specs.declared.notes.Refusal.{Refusal}
@@ -15,6 +15,7 @@ use Rattle.wf_frame.specs.declared.notes.Refusal.TheVariants.{Idle}
 use Rattle.wf_def_lists.specs.Table.{with_member}
 use Rattle.wf_def_codel.specs.Codel.{Item, octets}
 use Rattle.wf_def_world.specs.World.{World, Queue, Exchange, new_queue, queue, accepted_count, exchange, on_queue, with_frame_finished, with_fate, opening}
+use Rattle.wf_def_world.specs.Service.{station_served}
 use Rattle.wf_def_world.specs.FlowQueues.{is_at_limit, total_queued, longest_queue, without_head, after_limit, queue_for, with_appended, after_put_in}
 use Rattle.wf_def_world.proofs.Longest.{octets_at, longest_first_most}
 use Rattle.wf_def_world.specs.Refusals.{refusal}
@@ -201,6 +202,7 @@ less_asked (Poll s) w = less_on_station Any w s _
 less_asked (Rx s c air) w = less_on_share Any w s c _
 less_asked Reap w = less_reaped w.finished Any w
 less_asked (Group ask) w = less_plain Any w _ refl refl
+less_asked (Service ask) w = less_on_station Any w (station_served ask) _
 
 small_done : (note : Note) (n : ℕ) (w : World) → 0 < n → HasLength note → IsLimited n w →
     IsSmall n (outcome_of w note).world

@@ -17,7 +17,7 @@ use Rattle.wf_def_world.specs.World.{World, Station, Share, Tid, Queue, Exchange
 use Rattle.wf_frame.specs.Classes.{all_classes}
 use Rattle.wf_def_world.specs.CanSend.{with_listing_in, with_listings_in, with_listings_of}
 use Rattle.wf_def_world.specs.FlowQueues.{with_queues_paid}
-use Rattle.wf_def_world.specs.Exchanges.{with_station_paid, with_stations_paid, after_pick, after_tid_turn, without_credit, with_exchange_opened, after_charge, with_failed_finished, with_settled, with_all_settled, after_done, Prepared, caught_up, caught_up_if_plain}
+use Rattle.wf_def_world.specs.Exchanges.{with_station_paid, with_stations_paid, after_pick, after_tid_turn, with_exchange_opened, after_charge, with_failed_finished, with_settled, with_all_settled, after_done, Prepared, caught_up, caught_up_if_plain, with_spent}
 use Rattle.wf_def_world.specs.Step.{Outcome, with_frame, send_outcome, arrive_outcome, answer_outcome, done_outcome, outcome_where_open, reap_outcome, without_listings, with_deficits_lowered, weight_outcome, hold_outcome, begin_outcome, free_outcome, cease_outcome, after_numbers_ended}
 use Rattle.wf_def_lists.specs.Lists.{on}
 use Rattle.wf_law_rules.proofs.Lemmas.Counts.{on-nil, on-cons_same, on-cons_other}
@@ -258,7 +258,7 @@ shelves_after_turn w s c t = shelves_on_share w s c _
 
 pub shelves_sent : (s t : ℕ) (c : Class) (p : Prepared) →
     shelves (send_outcome s t c p).world ≡ shelves p.world
-unfolding send_outcome without_credit with_exchange_opened
+unfolding send_outcome with_spent with_exchange_opened
 shelves_sent s t c p = shelves_hidden _ s _ (λ x. refl)
 
 shelves_failed : (w : World) (s t : ℕ) (m : Mpdu) → shelves (with_failed_finished w s t m) ≡ shelves w

@@ -48,6 +48,8 @@ range_law config h range m =
                 (config_run (take m h) (opening config)) (is_allowed_kept w s (kept config (take m h) range));
             ampdu = x.ampdu;
             credit = x.credit;
+            delivery = x.delivery;
+            service = x.service;
             window = λ t below. (k.some s t live below, k.size s t);
             both = λ t. (a.agreed s t).size;
           };

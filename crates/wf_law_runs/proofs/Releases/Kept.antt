@@ -251,7 +251,7 @@ keep_sent w s t c p h = then_keep w p.world _ h
       agreed = λ i j. refl;
       live = λ i. refl;
       offloaded = λ i. refl;
-    }) (kept_same _ _ (same_spent _ s)))
+    }) (kept_same _ _ (same_spent _ _)))
 
 keep_pulled_by : (o : Option ℕ) (w : World) (c : Class) → Kept w (pull_outcome_for w c o).world
 unfolding pull_outcome_for

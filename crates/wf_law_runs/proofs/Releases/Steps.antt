@@ -10,11 +10,12 @@ use Rattle.wf_def_lists.specs.Bounds.{greatest_window}
 use Rattle.wf_def_agreement.specs.Receiver.{Receiver, with_start, released_between}
 use Rattle.wf_def_agreement.specs.Session.{End, start_of, request_due, Session, Slot, State, is_settled, is_failed, slot, on_slot, with_number_given, after_flush, next_number}
 use Rattle.wf_def_world.specs.World.{receiver, World, Station, Tid, on_tid, Exchange, Mpdu, Content, Frames, Request, new_tid, queue, rotation, session, is_live, exchange, with_station, on_station, on_session, on_receiver, with_frame_finished, with_exchange, without_exchange, Mode, Plain, OnHold, Agreed, is_agreed, is_held_back, has_agreement, tid_of}
+use Rattle.wf_def_world.specs.Service.{station_served}
 use Rattle.wf_frame.specs.Classes.{all_classes}
 use Rattle.wf_def_world.specs.FlowQueues.{taken_for_tid}
 use Rattle.wf_def_world.specs.CanSend.{is_ready, can_give}
-use Rattle.wf_def_world.specs.Exchanges.{caught_up, caught_up_if_plain, end_of, transmissions, station_need, most_frames, picked_station, after_arrival, sending_tid, with_heard_start, Prepared, after_tid_turn, with_fresh, aggregate_of, with_number, with_flying, waiting_mpdus, longest_fitting, prepared_data, prepared_exchange, with_exchange_opened, after_charge, with_failed_finished, with_settled, with_all_settled, after_done, ids_of, Aggregate}
-use Rattle.wf_frame.specs.declared.notes.Ask.TheVariants.{Join, Leave, Rate, Tick, Pull, Arrive, Answer, Done, Sleep, Wake, Poll, Rx, Reap, Ampdu, Stop, Start, Unsent, GiveUp, Flush, Offload, Weight, Hold, Begin, Free, Cease, Group}
+use Rattle.wf_def_world.specs.Exchanges.{caught_up, caught_up_if_plain, end_of, transmissions, station_need, most_frames, picked_station, after_arrival, sending_tid, with_heard_start, Prepared, after_tid_turn, with_fresh, aggregate_of, with_number, with_flying, waiting_mpdus, longest_fitting, prepared_data, prepared_exchange, with_exchange_opened, after_charge, with_failed_finished, with_settled, with_all_settled, after_done, ids_of, Aggregate, exchange_of}
+use Rattle.wf_frame.specs.declared.notes.Ask.TheVariants.{Join, Leave, Rate, Tick, Pull, Arrive, Answer, Done, Sleep, Wake, Poll, Rx, Reap, Ampdu, Stop, Start, Unsent, GiveUp, Flush, Offload, Weight, Hold, Begin, Free, Cease, Group, Service}
 use Rattle.wf_frame.specs.declared.notes.Ask.TheVariants as call
 use Rattle.wf_frame.specs.declared.notes.Limits.{Limits}
 use Rattle.wf_frame.specs.declared.notes.Note.{Note}
@@ -178,7 +179,7 @@ module _ (P : List ℕ → World → Type 0) (Good : World → Type 0)
   through_sent : (l : List ℕ) (s t : ℕ) (c : Class) (q : Prepared) → P l q.world →
       P l (send_outcome s t c q).world
   unfolding send_outcome with_exchange_opened
-  through_sent l s t c q p = plain l _ _ (less_spent Any _ s) (same_spent _ s).sides
+  through_sent l s t c q p = plain l _ _ (less_spent Any _ _) (same_spent _ (exchange_of s t c q)).sides
       (plain l q.world _ (less_plain Any q.world _ refl refl) (λ i j. refl) p)
 
   through_same : (l : List ℕ) (w v : World) → Same w v → Less Any w v → P l w → P l v
@@ -543,6 +544,8 @@ module _ (P : List ℕ → World → Type 0) (Good : World → Type 0)
       (ap (λ (ids : List ℕ). l ++ ids) (sym (ceased_named w s t) ∙ r) ∙ append-nil l)
       (through_ceased l w s t (not_no (is_live w s) e.1.1.0) i g p)
   through_call (Asked (Group ask)) l w i g e p r = plain l w _ (less_plain Any w _ refl refl) (λ s t. refl) p
+  through_call (Asked (Service ask)) l w i g e p r =
+      through_on_station l w (station_served ask) _ (λ x t. refl) p
 
   through_arrival : (l : List ℕ) (w : World) (i : IsLawful w) (e n : ℕ) → Good w →
       NoRow (refusals w (Asked (Arrive e n))) → P l w →

@@ -7,7 +7,7 @@ use Rattle.wf_frame.specs.declared.settings.Config.{Config}
 use Rattle.wf_frame.specs.declared.classes.Class.{Class}
 use Rattle.wf_frame.specs.declared.classes.Fate.TheVariants.{Dropped}
 use Rattle.wf_frame.specs.declared.classes.Cause.TheVariants.{Left, Overlimit}
-use Rattle.wf_frame.specs.declared.notes.Ask.TheVariants.{Join, Leave, Rate, Tick, Pull, Arrive, Answer, Done, Sleep, Wake, Poll, Rx, Reap, Ampdu, Stop, Start, Unsent, GiveUp, Flush, Offload, Weight, Plain, Hold, Begin, Free, Cease, Group}
+use Rattle.wf_frame.specs.declared.notes.Ask.TheVariants.{Join, Leave, Rate, Tick, Pull, Arrive, Answer, Done, Sleep, Wake, Poll, Rx, Reap, Ampdu, Stop, Start, Unsent, GiveUp, Flush, Offload, Weight, Plain, Hold, Begin, Free, Cease, Group, Service}
 use Rattle.wf_frame.specs.declared.notes.Limits.{Limits}
 use Rattle.wf_frame.specs.declared.notes.Note.{Note}
 use Rattle.wf_frame.specs.declared.notes.Note.TheVariants.{Enqueue, Asked}
@@ -21,6 +21,7 @@ use Rattle.wf_def_rotation.specs.Rotation.{Rotation, has_key, with_new_key, in_o
 use Rattle.wf_def_agreement.specs.Receiver.{score}
 use Rattle.wf_def_agreement.specs.Session.{Session, slot, waiting_numbers, next_number, request_due}
 use Rattle.wf_def_world.specs.World.{World, Station, Share, Queue, Exchange, Mpdu, new_queue, no_frame, Frame, len_of, session, tid_of, queue, is_live, accepted_count, exchange, codel_params, with_station, on_station, on_tid, on_receiver, on_share, on_queue, with_queues, with_frames_finished, with_exchange, without_exchange, receiver, opening}
+use Rattle.wf_def_world.specs.Service.{station_served}
 use Rattle.wf_def_world.specs.FlowQueues.{Taken, after_limit, is_at_limit, longest_queue, without_head, queue_for, with_appended, when_listed, with_listed_queue, after_put_in, with_queues_paid, after_dequeue, taken_by_codel, taken_from_picked, taken_for_tid, picked_queue, after_queue_left, after_queues_left}
 use Rattle.wf_def_world.specs.CanSend.{can_give, can_send_in, with_listings_of}
 use Rattle.wf_def_world.specs.Exchanges.{Aggregate, Prepared, most_frames, mpdus_of, mpdu_of, fits_in, picked_station, sending_tid, waiting_mpdus, longest_fitting, fresh_mpdus, with_number, with_fresh, aggregate_of, prepared_data, prepared_exchange, exchange_of, after_pick, after_tid_turn, with_exchange_opened, after_arrival, caught_up}
@@ -313,7 +314,7 @@ stocked_same most w v e o i = stocked_sifted most (shelves w) (shelves v) w.open
 pub opened_sent : (s t : ℕ) (c : Class) (p : Prepared) →
     (send_outcome s t c p).world.opened ≡ p.world.opened ++ exchange_of s t c p ∷ []
 unfolding send_outcome with_exchange_opened
-opened_sent s t c p = (same_spent _ s).opened
+opened_sent s t c p = (same_spent _ (exchange_of s t c p)).opened
 
 stocked_sent : (most : ℕ) (s t : ℕ) (c : Class) (w : World) (p : Prepared) → p.world.opened ≡ w.opened →
     IsReadied (shelves w) p
@@ -755,6 +756,8 @@ stocked_done most (Asked (Cease s t)) l w e a k i =
     stocked_same most w (cease_outcome w s t).world (shelves_ceased w s t) (opened_ceased w s t) i
 stocked_done most (Asked (Group ask)) l w e a k i =
     record { short = i.short; measured = i.measured; lens = i.lens }
+stocked_done most (Asked (Service ask)) l w e a k i =
+    stocked_on_station most w (station_served ask) _ (λ x. refl) (λ x t. refl) i
 
 stocked_refused : (most : ℕ) (note : Note) (r : Refusal) (w : World) → IsStocked most w →
     IsStocked most (after_refusal w note r)

@@ -10,7 +10,7 @@ use Rattle.wf_frame.specs.declared.notes.Refusal.{Refusal}
 use Rattle.wf_frame.specs.declared.notes.Refusal.TheVariants.{Idle}
 use Rattle.wf_def_lists.specs.Bounds.{greatest_tick}
 use Rattle.wf_def_world.specs.World.{World}
-use Rattle.wf_def_world.specs.Exchanges.{picked_station, Prepared, after_tid_turn, without_credit, with_exchange_opened}
+use Rattle.wf_def_world.specs.Exchanges.{picked_station, Prepared, after_tid_turn, with_exchange_opened, with_spent}
 use Rattle.wf_def_world.specs.Refusals.{refusals, refusal}
 use Rattle.wf_def_world.specs.Step.{tick_outcome, send_outcome, pull_outcome_for, pull_outcome, concerned_station, outcome_of, after_refusal, judged_outcome, step}
 use Rattle.wf_law_rules.proofs.Lemmas.Numbers.{lt_no}
@@ -30,7 +30,7 @@ Counts a b w = Bounds a b (fixed w)
 
 kept_sent : (a b s t : ℕ) (c : Class) (p : Prepared) → Counts a b p.world →
     Counts a (b + 1) (send_outcome s t c p).world
-unfolding send_outcome without_credit with_exchange_opened
+unfolding send_outcome with_spent with_exchange_opened
 kept_sent a b s t c p h = set_station (Bounds a (b + 1)) _ s _ (h.0, omega (arith, h.1))
 
 more : (a b x y : ℕ) → (x ≤ a) × (y ≤ b) → (x ≤ a + greatest_tick) × (y ≤ b + 1)

@@ -196,7 +196,7 @@ sum_part (Asks start) c h = sym (sum_zero (λ k. 0) c (λ k. refl))
 
 sum_reply : (r : ReplyNote) (c : ℕ) → ((k : ℕ) → c ≤ k → tries_by k r ≡ 0) →
     frames_sent_by r ≡ sum_below (λ k. tries_by k r) c
-sum_reply (Send exchange station tid air part more) c h = sum_part part c h
+sum_reply (Send exchange station tid air part more eosp) c h = sum_part part c h
 sum_reply _ c h = sym (sum_zero (λ k. 0) c (λ k. refl))
 
 sum_run : (h : List Entry) (w : World) (c : ℕ) → ((k : ℕ) → c ≤ k → tries w k h ≡ 0) →
@@ -292,18 +292,27 @@ length_batch : (ms : List Mpdu) → length {A = ℕ} (map (λ m. m.id) ms) ≡ l
 length_batch [] = refl
 length_batch (m ∷ ms) = omega (arith, length_batch ms)
 
-data_sent : (batch plain : Bool) (c : Content) (number station tid charge : ℕ) (more : Bool) →
+-- A part of a reply has the frames of its exchange.
+pub part_length : (batch plain : Bool) (c : Content) →
+    frames_in_part (part_of batch plain c) ≡ length (mpdus_of c)
+part_length false false (Frames ms) = length_named ms
+part_length false true (Frames ms) = length_named ms
+part_length true plain (Frames ms) = length_batch ms
+part_length false plain (Request start) = refl
+part_length true plain (Request start) = refl
+
+data_sent : (batch plain : Bool) (c : Content) (number station tid charge : ℕ) (more eosp : Bool) →
     (is_request c ≡ false → 1 ≤ length (mpdus_of c)) →
-    data_exchanges_by (Send number station tid charge (part_of batch plain c) more)
-    ≤ frames_sent_by (Send number station tid charge (part_of batch plain c) more)
-data_sent false false (Frames ms) number station tid charge more some =
-    omega (arith, some refl, length_named ms)
-data_sent false true (Frames ms) number station tid charge more some =
-    omega (arith, some refl, length_named ms)
-data_sent true plain (Frames ms) number station tid charge more some =
-    omega (arith, some refl, length_batch ms)
-data_sent false plain (Request start) number station tid charge more some = omega arith
-data_sent true plain (Request start) number station tid charge more some = omega arith
+    data_exchanges_by (Send number station tid charge (part_of batch plain c) more eosp)
+    ≤ frames_sent_by (Send number station tid charge (part_of batch plain c) more eosp)
+data_sent false false (Frames ms) number station tid charge more eosp some =
+    omega (arith, some refl, part_length false false (Frames ms))
+data_sent false true (Frames ms) number station tid charge more eosp some =
+    omega (arith, some refl, part_length false true (Frames ms))
+data_sent true plain (Frames ms) number station tid charge more eosp some =
+    omega (arith, some refl, part_length true plain (Frames ms))
+data_sent false plain (Request start) number station tid charge more eosp some = omega arith
+data_sent true plain (Request start) number station tid charge more eosp some = omega arith
 
 data_step : (w : World) (note : Note) → AllSome (step w note).world →
     data_exchanges_by (step w note).reply ≤ frames_sent_by (step w note).reply
@@ -311,7 +320,7 @@ data_step w note a = elim (opens_step w note) [
   | inl none ↦ omega (arith, none.exchanges)
   | inr x ↦ subst (λ (r : ReplyNote). data_exchanges_by r ≤ frames_sent_by r) (sym x.reply)
       (data_sent x.exchange.batch x.exchange.plain x.exchange.content x.exchange.number x.exchange.station
-      x.exchange.tid x.exchange.charge x.exchange.more
+      x.exchange.tid x.exchange.charge x.exchange.more x.exchange.eosp
       (at_some HasSome (step w note).world.opened x.exchange a x.among))
 ]
 

@@ -2,7 +2,7 @@
 -- there before and failed. By cases of the call.
 use Rattle.std.proofs.Common.{◌≡◌, ◌≢◌, refl, ap, sym, ◌∙◌, subst, ℕ, zero, suc, ◌-◌, ◌==◌, List, [], ◌∷◌, ◌++◌, Option, Some, None, Bool, true, false, arith, ◌≤◌}
 use Rattle.wf_frame.specs.declared.classes.Class.{Class}
-use Rattle.wf_frame.specs.declared.notes.Ask.TheVariants.{Join, Leave, Rate, Tick, Pull, Arrive, Answer, Done, Sleep, Wake, Poll, Rx, Reap, Ampdu, Stop, Start, Unsent, GiveUp, Flush, Offload, Weight, Plain, Hold, Begin, Free, Cease, Group}
+use Rattle.wf_frame.specs.declared.notes.Ask.TheVariants.{Join, Leave, Rate, Tick, Pull, Arrive, Answer, Done, Sleep, Wake, Poll, Rx, Reap, Ampdu, Stop, Start, Unsent, GiveUp, Flush, Offload, Weight, Plain, Hold, Begin, Free, Cease, Group, Service}
 use Rattle.wf_frame.specs.declared.notes.Limits.{Limits}
 use Rattle.wf_frame.specs.declared.notes.Note.{Note}
 use Rattle.wf_frame.specs.declared.notes.Note.TheVariants.{Enqueue, Asked}
@@ -10,6 +10,7 @@ use Rattle.wf_frame.specs.Classes.{all_classes}
 use Rattle.wf_def_lists.specs.Table.{at, upto, with_member}
 use Rattle.wf_def_agreement.specs.Session.{Session, Slot, State, no_slot, slot, on_slot, with_state, with_number_given, start_of}
 use Rattle.wf_def_world.specs.World.{World, Mode, Station, Tid, Exchange, Mpdu, new_tid, tid_of, session, with_mode, on_tid, exchange, with_station, on_session, on_receiver, with_exchange}
+use Rattle.wf_def_world.specs.Service.{station_served}
 use Rattle.wf_def_world.specs.Exchanges.{with_flying, with_exchange_opened, after_arrival, caught_up, caught_up_if_plain}
 use Rattle.wf_def_world.specs.Step.{Outcome, join_outcome, leave_outcome, rate_outcome, tick_outcome, pull_outcome, arrive_outcome, answer_outcome, unsent_outcome, give_up_outcome, outcome_where_open, sleep_outcome, wake_outcome, poll_outcome, rx_outcome, reap_outcome, outcome_of, offload_outcome, plain_outcome, plain_window, hold_outcome, begin_outcome, free_outcome, new_station}
 use Rattle.wf_law_rules.proofs.Lemmas.Numbers.{on_bool, eq_yes, eq_no}
@@ -275,3 +276,5 @@ still_done (Asked (Begin s t window)) w i d = still_begun w s t window
 still_done (Asked (Free s t)) w i d = still_freed w s t
 still_done (Asked (Cease s t)) w i d = absurd (d tt)
 still_done (Asked (Group ask)) w i d = record { still = λ s t n _. stands_equal _ _ n refl }
+still_done (Asked (Service ask)) w i d =
+    still_same w _ (same_on_station w (station_served ask) _ (λ x t. refl))

@@ -2,11 +2,12 @@
 use Rattle.std.proofs.Common.{◌≡◌, refl, sym, ◌∙◌, subst, arith, ℕ, ◌≤◌, List, [], ◌∷◌, Option, Some, None, take}
 use Rattle.wf_frame.specs.declared.settings.Config.{Config}
 use Rattle.wf_frame.specs.Settings.{IsInRange}
-use Rattle.wf_frame.specs.declared.notes.Ask.TheVariants.{Join, Leave, Rate, Tick, Pull, Arrive, Answer, Done, Sleep, Wake, Poll, Rx, Reap, Ampdu, Stop, Start, Unsent, GiveUp, Flush, Offload, Weight, Plain, Hold, Begin, Free, Cease, Group}
+use Rattle.wf_frame.specs.declared.notes.Ask.TheVariants.{Join, Leave, Rate, Tick, Pull, Arrive, Answer, Done, Sleep, Wake, Poll, Rx, Reap, Ampdu, Stop, Start, Unsent, GiveUp, Flush, Offload, Weight, Plain, Hold, Begin, Free, Cease, Group, Service}
 use Rattle.wf_frame.specs.declared.notes.Note.{Note}
 use Rattle.wf_frame.specs.declared.notes.Note.TheVariants.{Enqueue, Asked}
 use Rattle.wf_frame.specs.declared.notes.Refusal.{Refusal}
 use Rattle.wf_def_world.specs.World.{World, session, exchange, is_held_back, opening}
+use Rattle.wf_def_world.specs.Service.{station_served}
 use Rattle.wf_def_world.specs.Refusals.{refusals, refusal}
 use Rattle.wf_def_world.specs.Step.{tick_outcome, rate_outcome, sleep_outcome, wake_outcome, poll_outcome, rx_outcome, outcome_of, concerned_station, judged_outcome, step}
 use Rattle.wf_def_world.specs.Run.{Entry, world_after}
@@ -74,6 +75,8 @@ few_done config (Asked (Free s t)) w is some r i k =
     few_kept config w _ (keeps_same w _ (same_freed w s t (not_no (is_held_back w s t) r.1.1.1.0))) k
 few_done config (Asked (Cease s t)) w is some r i k = few_kept config w _ (keeps_ceased w s t) k
 few_done config (Asked (Group ask)) w is some r i k = record { numbers = k.numbers; opened = k.opened }
+few_done config (Asked (Service ask)) w is some r i k =
+    few_kept config w _ (keeps_same w _ (same_on_station w (station_served ask) _ (λ x t. refl))) k
 
 few_answer : (config : Config) (o : Option Refusal) (w : World) (note : Note) → refusal w note ≡ o →
     w.config ≡ config → 1 ≤ config.agg → IsLawful w → IsFew config w →

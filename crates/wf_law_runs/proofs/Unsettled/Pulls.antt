@@ -9,6 +9,7 @@ use Rattle.wf_frame.specs.declared.notes.Limits.{Limits}
 use Rattle.wf_frame.specs.declared.notes.Note.TheVariants.{Asked}
 use Rattle.wf_frame.specs.Classes.{class_of, lower_tid, upper_tid}
 use Rattle.wf_def_world.specs.World.{World, Bounds, Exchange, session, is_live, share, station}
+use Rattle.wf_def_world.specs.Service.{service_limit}
 use Rattle.wf_def_world.specs.CanSend.{can_send, can_send_in}
 use Rattle.wf_def_world.specs.Exchanges.{Prepared, mpdus_of, takes_one, most_frames, limited, picked_station, first_tid, other_tid, sending_tid, after_tid_turn, prepared_exchange, exchange_of, with_exchange_opened}
 use Rattle.wf_def_world.specs.Refusals.{refusals, open_of_class}
@@ -52,7 +53,7 @@ upper_class Be = refl
 upper_class Vi = refl
 upper_class Vo = refl
 
-sending_class : (w : World) (s : ℕ) (c : Class) → class_of (sending_tid w s c) ≡ c
+pub sending_class : (w : World) (s : ℕ) (c : Class) → class_of (sending_tid w s c) ≡ c
 sending_class w s c = on_if (λ (t : ℕ). class_of t ≡ c) (can_send w s (first_tid w s c)) (first_tid w s c)
     (other_tid w s c) (λ _. go (share w s c).upper) (λ _. back (share w s c).upper)
   where
@@ -65,9 +66,11 @@ sending_class w s c = on_if (λ (t : ℕ). class_of t ≡ c) (can_send w s (firs
     back false = upper_class c
 
 -- An exchange has no more frames than the bounds of its pull allow.
-frames_few : (b : Bool) (frames most : ℕ) → 1 ≤ most → frames ≤ most → (if b then 1 else frames) ≤ most
-frames_few true frames most h k = h
-frames_few false frames most h k = k
+frames_few : (b : Bool) (limit : Option ℕ) (frames most : ℕ) → 1 ≤ most → frames ≤ most →
+    (if b then 1 else limited limit frames) ≤ most
+frames_few true limit frames most h k = h
+frames_few false None frames most h k = k
+frames_few false (Some n) frames most h k = omega (arith, k)
 
 limited_few : (limit : Option ℕ) (most : ℕ) → 1 ≤ most → max 1 (limited limit most) ≤ most
 limited_few None most h = omega (arith, h)
@@ -87,7 +90,7 @@ numbers_sent : (s t : ℕ) (c : Class) (p : Prepared) (i j : ℕ) →
     open_in (session (send_outcome s t c p).world i j) ≤ open_in (session p.world i j)
 unfolding send_outcome with_exchange_opened
 numbers_sent s t c p i j = subst (λ (a : Side). open_in a.session ≤ open_in (session p.world i j))
-    (sym ((same_spent _ s).sides i j)) (least (open_in (session p.world i j)))
+    (sym ((same_spent _ (exchange_of s t c p)).sides i j)) (least (open_in (session p.world i j)))
 
 -- The world v in which the TID sends.
 module _ (config : Config) (v : World) (s t : ℕ) (c : Class) (l : IsLawful v) (live : is_live v s ≡ true)
@@ -139,7 +142,8 @@ few_pulled_by config (Some s) w c ready l some frames below i =
     let v : World = after_tid_turn w s c t in
     let k : Same w v = same_after_turn w s c t in
     few_sent config v s t c (lawful_same w v k l) (k.live s ∙ ready.0) (sending_class w s c)
-    (frames_few (takes_one (station v s)) v.bounds.frames config.agg some
+    (frames_few (takes_one (station v s) v.bounds.class) (service_limit (station v s) v.bounds.class)
+    v.bounds.frames config.agg some
     (subst (λ (b : Bounds). b.frames ≤ config.agg) (sym (bounds_after_turn w s c t)) frames))
     (subst (λ (xs : List Exchange). many c xs < config.inflight) (sym k.opened) below)
     (few_kept config w v (keeps_same w v k) i)

@@ -11,11 +11,12 @@ use Rattle.wf_def_rotation.specs.Rotation.{in_order}
 use Rattle.wf_def_agreement.specs.Receiver.{Receiver, with_arrived, with_start, Score, score, shows}
 use Rattle.wf_def_agreement.specs.Session.{request_due, start_of, waiting_numbers, Session, Slot, State, End, is_settled, is_failed, slot_after_miss, slot_given_up, slot, on_slot, with_number_given, after_flush, next_number, has_room}
 use Rattle.wf_def_world.specs.World.{quantum, new_queue, no_share, receiver, share, World, Station, Share, Tid, Mode, Plain, OnHold, Agreed, Queue, Exchange, Mpdu, Content, Frames, Request, new_tid, no_tid, no_station, rotation, session, tid_of, is_live, is_offloaded, is_agreed, is_plain, is_held_back, has_agreement, holds_back, exchange, with_station, on_station, on_tid, on_session, on_receiver, on_share, with_rotation, with_exchange, without_exchange, opening}
+use Rattle.wf_def_world.specs.Service.{station_served}
 use Rattle.wf_frame.specs.Classes.{lower_tid, upper_tid, class_number, all_classes}
 use Rattle.wf_def_world.specs.FlowQueues.{taken_for_tid}
 use Rattle.wf_def_world.specs.CanSend.{is_request, request_open, can_send, can_send_in, is_ready, can_give}
 use Rattle.wf_def_world.specs.Exchanges.{number_at, caught_up, caught_up_if_plain, is_acked, end_of, transmissions, no_mpdu, station_need, most_frames, picked_station, after_arrival, exchange_of, sending_tid, with_heard_start, Aggregate, Prepared, mpdus_of, with_station_paid, with_stations_paid, after_pick, after_tid_turn, with_fresh, aggregate_of, with_number, fresh_mpdus, with_flying, waiting_mpdus, longest_fitting, prepared_data, prepared_exchange, with_exchange_opened, after_charge, with_failed_finished, with_settled, with_all_settled, after_done}
-use Rattle.wf_frame.specs.declared.notes.Ask.TheVariants.{Join, Leave, Rate, Tick, Pull, Arrive, Answer, Done, Sleep, Wake, Poll, Rx, Reap, Ampdu, Stop, Start, Unsent, GiveUp, Flush, Offload, Weight, Hold, Begin, Free, Cease, Group}
+use Rattle.wf_frame.specs.declared.notes.Ask.TheVariants.{Join, Leave, Rate, Tick, Pull, Arrive, Answer, Done, Sleep, Wake, Poll, Rx, Reap, Ampdu, Stop, Start, Unsent, GiveUp, Flush, Offload, Weight, Hold, Begin, Free, Cease, Group, Service}
 use Rattle.wf_frame.specs.declared.notes.Ask.TheVariants as call
 use Rattle.wf_frame.specs.declared.notes.Limits.{Limits}
 use Rattle.wf_frame.specs.declared.notes.Note.{Note}
@@ -641,7 +642,7 @@ unfolding send_outcome
 lawful_sent s t c p a =
     let quiet : is_agreed p.world s t ≡ false → is_request p.content ≡ false =
     λ d. calm_frames p.content (session p.world s t) (a.quiet d) a.asked in
-    lawful_same _ _ (same_spent _ s)
+    lawful_same _ _ (same_spent _ _)
     (lawful_opening p.world (exchange_of s t c p) refl a.lawful a.quiet a.sent
     (record {
       live = a.live;
@@ -1972,6 +1973,7 @@ lawful_done (Asked (Free s t)) w e i =
     lawful_same w _ (same_freed w s t (not_no (is_held_back w s t) e.1.1.1.0)) i
 lawful_done (Asked (Cease s t)) w e i = lawful_ceased w s t e i
 lawful_done (Asked (Group ask)) w e i = lawful_plain w _ refl refl refl i
+lawful_done (Asked (Service ask)) w e i = lawful_on_station w (station_served ask) _ (λ x t. refl) i
 
 pub lawful_refused : (note : Note) (r : Refusal) (w : World) → IsLawful w → IsLawful (after_refusal w note r)
 unfolding after_refusal

@@ -4,7 +4,7 @@
 use Rattle.std.proofs.Common.{◌≡◌, ◌≢◌, refl, ap, sym, ◌∙◌, subst, arith, ℕ, zero, suc, ◌+◌, ◌-◌, ◌<◌, ◌≤◌, nat_lt, nat_le, Bool, true, false, if◌then◌else◌, ◌==◌, ◌||◌, ◌⊎◌, inl, inr, List, [], ◌∷◌, ◌++◌, length, map, Option, Some, None, IfSome, is_some}
 use Rattle.wf_frame.specs.declared.settings.Config.{Config}
 use Rattle.wf_frame.specs.declared.classes.Class.{Class}
-use Rattle.wf_frame.specs.declared.notes.Ask.TheVariants.{Join, Leave, Rate, Tick, Pull, Arrive, Answer, Done, Sleep, Wake, Poll, Rx, Reap, Ampdu, Stop, Start, Unsent, GiveUp, Flush, Offload, Weight, Hold, Begin, Free, Cease, Group}
+use Rattle.wf_frame.specs.declared.notes.Ask.TheVariants.{Join, Leave, Rate, Tick, Pull, Arrive, Answer, Done, Sleep, Wake, Poll, Rx, Reap, Ampdu, Stop, Start, Unsent, GiveUp, Flush, Offload, Weight, Hold, Begin, Free, Cease, Group, Service}
 use Rattle.wf_frame.specs.declared.notes.Ask.TheVariants as call
 use Rattle.wf_frame.specs.declared.notes.Limits.{Limits}
 use Rattle.wf_frame.specs.declared.notes.Note.{Note}
@@ -17,6 +17,7 @@ use Rattle.wf_def_lists.specs.Table.{at, has, with_member, upto}
 use Rattle.wf_def_agreement.specs.Receiver.{Receiver, Score, greatest, score, score_start}
 use Rattle.wf_def_agreement.specs.Session.{Session, State, is_settled, start_of, next_number}
 use Rattle.wf_def_world.specs.World.{World, Station, Exchange, Mpdu, Content, Frames, Request, rotation, session, receiver, is_live, exchange, with_station, on_receiver, with_exchange, opening, Mode, Plain, Agreed, is_held_back}
+use Rattle.wf_def_world.specs.Service.{station_served}
 use Rattle.wf_def_world.specs.CanSend.{is_ready}
 use Rattle.wf_def_world.specs.Exchanges.{transmissions, no_mpdu, mpdus_of, station_need, picked_station, sending_tid, exchange_of, Prepared, after_tid_turn, with_exchange_opened, after_arrival}
 use Rattle.wf_def_world.specs.Refusals.{open_of_station, refusals, refusal}
@@ -146,7 +147,7 @@ marked_sent s t c w p r k h =
     let x : Exchange = exchange_of s t c p in
     let v : World = record p.world { exchanges = p.world.exchanges + 1; opened = p.world.opened ++ x ∷ [] } in
     let before : Marked p.world = marked_kept w p.world k r.opened h in
-    marked_same v _ (same_spent v s) (record {
+    marked_same v _ (same_spent v x) (record {
       marks = each_append (IsMarked v) p.world.opened x
           (each_map (IsMarked p.world) (IsMarked v) p.world.opened
           (λ y a. record { arrived = a.arrived; answered = a.answered }) before.marks)
@@ -420,6 +421,8 @@ marked_done (Asked (Free s t)) w i r h =
 marked_done (Asked (Cease s t)) w i r h = marked_elsewhere w _ s t
     (none_of_tid s t w.opened r.1.1.1.1.0) (opened_ceased w s t) (ceased_elsewhere w s t) h
 marked_done (Asked (Group ask)) w i r h = marked_kept w _ (keep_plain w _ refl) refl h
+marked_done (Asked (Service ask)) w i r h =
+    marked_same w _ (same_on_station w (station_served ask) _ (λ x t. refl)) h
 
 marked_refused : (note : Note) (r : Refusal) (w : World) → Marked w → Marked (after_refusal w note r)
 unfolding after_refusal

@@ -7,10 +7,11 @@ use Rattle.wf_def_lists.specs.Table.{has, with_member, upto}
 use Rattle.wf_def_agreement.specs.Receiver.{Receiver, Score, score}
 use Rattle.wf_def_agreement.specs.Session.{next_number}
 use Rattle.wf_def_world.specs.World.{receiver, World, Station, Exchange, Mpdu, Content, rotation, session, is_live, exchange, with_station, on_station, on_receiver, with_exchange, opening, is_held_back}
+use Rattle.wf_def_world.specs.Service.{station_served}
 use Rattle.wf_frame.specs.Classes.{all_classes}
 use Rattle.wf_def_world.specs.CanSend.{is_ready}
 use Rattle.wf_def_world.specs.Exchanges.{station_need, picked_station, after_arrival, exchange_of, sending_tid, Prepared, mpdus_of, after_tid_turn, with_exchange_opened}
-use Rattle.wf_frame.specs.declared.notes.Ask.TheVariants.{Join, Leave, Rate, Tick, Pull, Arrive, Answer, Done, Sleep, Wake, Poll, Rx, Reap, Ampdu, Stop, Start, Unsent, GiveUp, Flush, Offload, Weight, Hold, Begin, Free, Cease, Group}
+use Rattle.wf_frame.specs.declared.notes.Ask.TheVariants.{Join, Leave, Rate, Tick, Pull, Arrive, Answer, Done, Sleep, Wake, Poll, Rx, Reap, Ampdu, Stop, Start, Unsent, GiveUp, Flush, Offload, Weight, Hold, Begin, Free, Cease, Group, Service}
 use Rattle.wf_frame.specs.declared.notes.Ask.TheVariants as call
 use Rattle.wf_frame.specs.declared.notes.Limits.{Limits}
 use Rattle.wf_frame.specs.declared.notes.Note.{Note}
@@ -71,7 +72,7 @@ module _ (e : ℕ) (b : Score) (s t : ℕ) (c : Content) where
   standing_sent i j d w p r h =
       let x : Exchange = exchange_of i j d p in
       let new : x.number ≢ e = λ same_number. omega (arith, same_number, r.exchanges, h.below) in
-      standing_same _ _ (same_spent _ i) (record {
+      standing_same _ _ (same_spent _ _) (record {
         below = omega (arith, h.below, r.exchanges);
         stands =
             each_append AsThen p.world.opened x (subst (Each AsThen) (sym r.opened) h.stands)
@@ -264,6 +265,7 @@ module _ (e : ℕ) (b : Score) (s t : ℕ) (c : Content) where
   standing_done (Asked (Cease i j)) w l r h =
       standing_plain w _ (opened_ceased w i j) (exchanges_ceased w i j) h
   standing_done (Asked (Group ask)) w l r h = standing_plain w _ refl refl h
+  standing_done (Asked (Service ask)) w l r h = standing_station w (station_served ask) _ (λ x t. refl) h
 
   standing_refused : (note : Note) (r : Refusal) (w : World) → IsStanding e b s t c w →
       IsStanding e b s t c (after_refusal w note r)

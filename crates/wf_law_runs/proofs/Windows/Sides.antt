@@ -12,7 +12,7 @@ use Rattle.wf_def_agreement.specs.Session.{Session, slot, after_flush, start_of}
 use Rattle.wf_def_world.specs.World.{World, Station, Share, Tid, Mode, Plain, OnHold, Agreed, Queue, Exchange, no_tid, no_station, station, tid_of, session, receiver, is_live, is_offloaded, is_agreed, is_held_back, has_agreement, holds_back, with_mode, with_station, on_station, on_tid, on_session, on_receiver, with_queues, on_share, on_queue, with_rotation, with_fate, with_frame_finished, with_frames_finished}
 use Rattle.wf_def_world.specs.FlowQueues.{without_head, after_limit, with_listed_queue, with_appended, after_put_in, with_queues_paid, taken_by_codel, taken_from_picked, taken_for_tid, after_queue_left, after_queues_left, after_queue_flushed, after_queues_flushed}
 use Rattle.wf_def_world.specs.CanSend.{with_listing_in, with_listings_in, with_listings_of}
-use Rattle.wf_def_world.specs.Exchanges.{with_station_paid, with_stations_paid, after_pick, after_tid_turn, without_credit, after_charge, with_heard_start, caught_up, caught_up_if_plain}
+use Rattle.wf_def_world.specs.Exchanges.{with_station_paid, with_stations_paid, after_pick, after_tid_turn, after_charge, with_heard_start, caught_up, caught_up_if_plain, with_spent}
 use Rattle.wf_def_world.specs.Step.{with_deficits_lowered, weight_outcome, hold_outcome, begin_outcome, free_outcome, cease_outcome, after_numbers_ended, with_window, plain_window}
 use Rattle.wf_frame.specs.Classes.{all_classes}
 use Rattle.wf_law_rules.proofs.Lemmas.Tables.{each_put, at_put_same}
@@ -308,9 +308,9 @@ pub same_after_turn : (w : World) (s : ℕ) (c : Class) (t : ℕ) → Same w (af
 unfolding after_tid_turn
 same_after_turn w s c t = same_on_share w s c _
 
-pub same_spent : (w : World) (s : ℕ) → Same w (without_credit w s)
-unfolding without_credit
-same_spent w s = same_on_station w s _ (λ x t. refl)
+pub same_spent : (w : World) (x : Exchange) → Same w (with_spent w x)
+unfolding with_spent
+same_spent w x = same_on_station w x.station _ (λ y t. refl)
 
 pub same_without_head : (items : List Item) (w : World) (q : ℕ) → Same w (without_head w q items)
 unfolding without_head

@@ -108,7 +108,7 @@ holds_sent : (w : World) (s t : ℕ) (c : Class) (p : Prepared) → Holds w p.wo
     Holds w (send_outcome s t c p).world
 unfolding send_outcome with_exchange_opened
 holds_sent w s t c p h = then_holds w p.world _ h
-    (then_holds p.world _ _ (record { held = λ i j _. refl }) (holds_same _ _ (same_spent _ s)))
+    (then_holds p.world _ _ (record { held = λ i j _. refl }) (holds_same _ _ (same_spent _ _)))
 
 holds_pulled_by : (o : Option ℕ) (w : World) (c : Class) → IfSome o (λ s. is_live w s ≡ true) → IsLawful w →
     Holds w (pull_outcome_for w c o).world

@@ -20,8 +20,8 @@ returns-clause-queues c = queues_leave
 pub returns-clause-turn : goal.returns-clause-turn
 returns-clause-turn c = turn_leaves
 
-pub returns-clause-credit : goal.returns-clause-credit
-returns-clause-credit c = spent_leaves
+pub returns-clause-spent : goal.returns-clause-spent
+returns-clause-spent c = spent_leaves
 
 pub returns-clause-mode : goal.returns-clause-mode
 returns-clause-mode c = mode_leaves
