@@ -1,5 +1,5 @@
 -- Proves that the octets of a plain header, with free bits 0, begin with that header.
-use Rattle.std.proofs.Common.{◌≡◌, ℕ, ◌+◌, ◌*◌, ◌≤◌, ◌==◌, Bool, true, false, List, [], ◌∷◌, ◌++◌, length, take, get_or, refl, sym, ◌∙◌, ap, subst, arith, MatchBool, length-take, if◌then◌else◌}
+use Rattle.std.proofs.Common.{◌≡◌, ℕ, ◌+◌, ◌*◌, ◌%◌, ◌<◌, ◌≤◌, ◌==◌, Bool, true, false, List, [], ◌∷◌, ◌++◌, length, take, get_or, refl, sym, ◌∙◌, ap, subst, arith, MatchBool, length-take, if◌then◌else◌}
 use Rattle.wf_octets.proofs.Places.{front_octet, front_number, front_part, six}
 use Rattle.std.proofs.lemmas.Bool.{both_ways}
 use Rattle.std.specs.Int.{bit_at}
@@ -7,7 +7,7 @@ use Rattle.wf_octets.specs.Fields.{is_set, number_at, part, two_octets}
 use Rattle.wf_octets.specs.declared.header.header.Kind.{Kind}
 use Rattle.wf_octets.specs.declared.header.header.Kind.TheVariants.{QosData, QosNull, PsPoll, Ack, BlockAckReq, BlockAck}
 use Rattle.wf_octets.specs.declared.header.header.Header.{Header}
-use Rattle.wf_octets.specs.HeaderLayout.{first_octet, size_of, is_qos, has_address_2, no_address, HasQosFields, HasShortFields, BeginsWithHeader, IsPlainQos, IsPlainShort, IsPlain, bit_of, flags_octet}
+use Rattle.wf_octets.specs.HeaderLayout.{first_octet, size_of, is_qos, has_address_2, no_address, HasQosFields, HasShortFields, BeginsWithHeader, IsPlainQos, IsPlainShort, IsPlain, bit_of, flags_octet, qos_octet}
 
 -- ---- the three layouts
 abbrev pub ack : ℕ → ℕ → ℕ → List ℕ → List ℕ
@@ -127,6 +127,21 @@ flags_read f to from retry power more is =
       order = set_from f 7 false (omega (arith, s0, s1, s3, s4, s5));
     }
 
+-- ---- the first octet of QoS Control
+record Control (q t : ℕ) (eosp : Bool) : Type 0 where
+  tid : q % 16 ≡ t
+  eosp_is : is_set q 4 ≡ eosp
+  a_msdu : is_set q 7 ≡ false
+
+control_read : (q t : ℕ) (eosp : Bool) → q ≡ t + 16 * bit_of eosp → t < 16 → Control q t eosp
+control_read q t eosp is small =
+    let s = bit_small eosp in
+    record {
+      tid = omega (arith, is, small);
+      eosp_is = set_from q 4 eosp (omega (arith, s));
+      a_msdu = set_from q 7 false (omega (arith, s));
+    }
+
 -- ---- the sizes
 pub size_of-qos : (k : Kind) → is_qos k ≡ true → size_of k ≡ 26
 size_of-qos QosData e = refl
@@ -181,19 +196,20 @@ whole xs h b others = record {
 pub qos_begins : (xs : List ℕ) (h : Header) → is_qos h.kind ≡ true → size_of h.kind ≡ 26 → IsPlain h →
     number_at (two_octets h.duration) 0 ≡ h.duration → number_at (two_octets (16 * h.seq)) 0 ≡ 16 * h.seq →
     length h.a1 ≡ 6 → length h.a2 ≡ 6 → length h.a3 ≡ 6
-    → take 26 xs ≡ qos (first_octet h.kind) (flags_octet h) h.duration h.a1 h.a2 h.a3 (16 * h.seq) h.tid →
+    → take 26 xs
+    ≡ qos (first_octet h.kind) (flags_octet h) h.duration h.a1 h.a2 h.a3 (16 * h.seq) (qos_octet h) →
     BeginsWithHeader xs h
 qos_begins xs h is_data size plain d s l1 l2 l3 same =
     whole xs h (begun xs ys h 26 16 (flags_octet h) size refl same r.0)
     (subst (λ b. MatchBool b (HasQosFields xs h) (HasShortFields xs h)) (sym is_data) fields)
   where
     ys : List ℕ
-    ys = qos (first_octet h.kind) (flags_octet h) h.duration h.a1 h.a2 h.a3 (16 * h.seq) h.tid
+    ys = qos (first_octet h.kind) (flags_octet h) h.duration h.a1 h.a2 h.a3 (16 * h.seq) (qos_octet h)
 
     r : IsRead ys 26 (first_octet h.kind) (flags_octet h) h.duration h.a1 × (part ys 10 6 ≡ h.a2) ×
-        (part ys 16 6 ≡ h.a3) × (number_at ys 22 ≡ 16 * h.seq) × (get_or ys 24 0 ≡ h.tid)
+        (part ys 16 6 ≡ h.a3) × (number_at ys 22 ≡ 16 * h.seq) × (get_or ys 24 0 ≡ qos_octet h)
     r = qos_read (first_octet h.kind) (flags_octet h) h.duration h.a1 h.a2 h.a3
-        (16 * h.seq) h.tid d s l1 l2 l3
+        (16 * h.seq) (qos_octet h) d s l1 l2 l3
 
     kept : IsPlainQos h
     kept = subst (λ b. MatchBool b (IsPlainQos h) (IsPlainShort h)) is_data plain
@@ -202,8 +218,9 @@ qos_begins xs h is_data size plain d s l1 l2 l3 same =
     flags = flags_read (get_or xs 1 0) h.to_ds h.from_ds h.retry h.power h.more
         (front_octet xs ys 26 1 same (omega arith) ∙ r.0.second)
 
-    tid : get_or xs 24 0 ≡ h.tid
-    tid = front_octet xs ys 26 24 same (omega arith) ∙ r.4
+    control : Control (get_or xs 24 0) h.tid h.eosp
+    control = control_read (get_or xs 24 0) h.tid h.eosp
+        (front_octet xs ys 26 24 same (omega arith) ∙ r.4) kept.tid
 
     fields : HasQosFields xs h
     fields = record {
@@ -219,8 +236,9 @@ qos_begins xs h is_data size plain d s l1 l2 l3 same =
       address_2 = front_part xs ys 26 10 6 10 same refl ∙ r.1;
       address_3 = front_part xs ys 26 16 6 4 same refl ∙ r.2;
       sequence = front_number xs ys 26 22 same (omega arith) ∙ r.3;
-      tid = omega (arith, tid, kept.tid);
-      a_msdu = set_from (get_or xs 24 0) 7 false (omega (arith, tid, kept.tid));
+      tid = control.tid;
+      eosp = control.eosp_is;
+      a_msdu = control.a_msdu;
     }
 
 pub short_begins : (xs : List ℕ) (h : Header) → is_qos h.kind ≡ false → has_address_2 h.kind ≡ true →

@@ -77,9 +77,10 @@ pub record HasNoFlags (h : Header) : Type 0 where
   pub retry : h.retry ≡ false
   pub power : h.power ≡ false
   pub more : h.more ≡ false
+  pub eosp : h.eosp ≡ false
 
 -- QoS Data and QoS Null after Address 1: the second octet of Frame Control, two addresses, Sequence Control
--- with fragment number 0 in bits 0 to 3, and QoS Control, whose bits 4 to 6 and 8 to 15 are free
+-- with fragment number 0 in bits 0 to 3, and QoS Control, whose bits 5, 6 and 8 to 15 are free
 pub record HasQosFields (octets : List ℕ) (h : Header) : Type 0 where
   pub to_ds : is_set (slice_index octets flags_at) 0 ≡ h.to_ds
   pub from_ds : is_set (slice_index octets flags_at) 1 ≡ h.from_ds
@@ -94,6 +95,7 @@ pub record HasQosFields (octets : List ℕ) (h : Header) : Type 0 where
   pub address_3 : part octets address_3_at address_octets ≡ h.a3
   pub sequence : number_at octets sequence_at ≡ 16 * h.seq
   pub tid : slice_index octets qos_at % 16 ≡ h.tid
+  pub eosp : is_set (slice_index octets qos_at) 4 ≡ h.eosp
   pub a_msdu : is_set (slice_index octets qos_at) 7 ≡ false
 
 -- Ack, PS-Poll, BlockAckReq and BlockAck after Address 1: the second octet of Frame Control is free, an Ack
@@ -139,9 +141,13 @@ abbrev pub flags_octet : Header → ℕ
 flags_octet h = bit_of h.to_ds + 2 * bit_of h.from_ds + 8 * bit_of h.retry + 16 * bit_of h.power + 32 * bit_of
     h.more
 
+-- the first octet of QoS Control (8.2.4.5): the TID in bits 0 to 3, and EOSP in bit 4
+abbrev pub qos_octet : Header → ℕ
+qos_octet h = h.tid + 16 * bit_of h.eosp
+
 -- the octets of a header, with free bits 0
 abbrev pub header_as_octets : Header → List ℕ
 header_as_octets h =
     (first_octet h.kind ∷ flags_octet h ∷ []) ++ two_octets h.duration ++ h.a1
     ++ (if has_address_2 h.kind then h.a2 else [])
-    ++ (if is_qos h.kind then h.a3 ++ two_octets (16 * h.seq) ++ (h.tid ∷ 0 ∷ []) else [])
+    ++ (if is_qos h.kind then h.a3 ++ two_octets (16 * h.seq) ++ (qos_octet h ∷ 0 ∷ []) else [])

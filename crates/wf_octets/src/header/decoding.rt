@@ -118,6 +118,7 @@ fn qos_header(kind: Kind, octets: &[u8]) -> Header
         a3: address_at(octets, ADDRESS_3_AT),
         seq: Seq12::of(u64::from(number_at(octets, SEQUENCE_AT) / 16)),
         tid: octets[QOS_AT] % 16,
+        eosp: is_set(octets[QOS_AT], 4),
     }
 }
 
@@ -146,5 +147,6 @@ fn short_header(kind: Kind, octets: &[u8]) -> Header
         a3: [0; 6],
         seq: Seq12::of(0),
         tid: 0,
+        eosp: false,
     }
 }

@@ -1,5 +1,5 @@
-ghost use Rattle.std.specs.Prelude.{◌≡◌, take, drop};
-ghost use Rattle.wf_octets.specs.HeaderLayout.{BeginsWithHeader, IsPlain, size_of, header_as_octets, flags_octet};
+ghost use Rattle.std.specs.Prelude.{◌≡◌, ◌<◌, take, drop};
+ghost use Rattle.wf_octets.specs.HeaderLayout.{BeginsWithHeader, IsPlain, size_of, header_as_octets, flags_octet, qos_octet};
 
 use crate::fields::{put, two_octets};
 use crate::header::{DATA_HEADER_OCTETS, Header};
@@ -22,7 +22,7 @@ pub fn encode(header: &Header, out: &mut [u8; DATA_HEADER_OCTETS]) -> usize
         if kind.is_qos() {
             let end = put(out, end, &header.a3);
             let end = put(out, end, &two_octets(16 * header.seq.raw()));
-            put(out, end, &[header.tid, 0])
+            put(out, end, &[qos_octet(header), 0])
         } else {
             end
         }
@@ -40,4 +40,12 @@ fn flags_octet(header: &Header) -> u8
         + 8 * u8::from(header.retry)
         + 16 * u8::from(header.power)
         + 32 * u8::from(header.more)
+}
+
+/// Returns the first octet of QoS Control.
+fn qos_octet(header: &Header) -> u8
+    requires { header.now.tid < 16 }
+    ensures { result ≡ qos_octet header.now }
+{
+    header.tid + 16 * u8::from(header.eosp)
 }

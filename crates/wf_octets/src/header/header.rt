@@ -81,8 +81,8 @@ impl Kind {
 }
 
 /// A MAC header. `encode` takes a plain one: each field that its kind does not have is false or 0, at most
-/// one DS flag is set, and the TID is below 16. Only QoS kinds have flags, `a3`, `seq` and `tid`; an Ack has
-/// no `a2`.
+/// one DS flag is set, and the TID is below 16. Only QoS kinds have flags, `a3`, `seq`, `tid` and `eosp`; an
+/// Ack has no `a2`.
 #[derive(Clone, Copy, Debug, PartialEq, Eq)]
 pub struct Header {
     /// The kind of frame.
@@ -110,4 +110,7 @@ pub struct Header {
     pub seq: Seq12,
     /// The traffic identifier, below 16.
     pub tid: u8,
+    /// Bit 4 of QoS Control. In a frame of an access point: the service period ends with it (EOSP,
+    /// 8.2.4.5.3). In a frame of a station: the second octet of QoS Control is a queue size.
+    pub eosp: bool,
 }

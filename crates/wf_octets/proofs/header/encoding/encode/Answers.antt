@@ -21,11 +21,11 @@ returns-then-is_qos-clause-layout c =
     let address_3 = then_put c.put-end-then-is_qos.ensures.up_to_it address_2 refl in
     let number = then_put c.put-end-then-is_qos-2.ensures.up_to_it address_3
     (c.two_octets-then-is_qos.ensures.octets ∙ ap two_octets sequence) in
-    let tid = then_put c.put.ensures.up_to_it number refl in
+    let control = then_put c.put.ensures.up_to_it number (ap (λ o. o ∷ 0 ∷ []) c.qos_octet.ensures) in
     qos_begins c.put.new.out c.args.header.now is_data
     (size_of-qos c.args.header.now.kind is_data) c.requires.plain c.two_octets.ensures.read_back
     (subst (λ n. number_at (two_octets n) 0 ≡ n) sequence c.two_octets-then-is_qos.ensures.read_back)
-    (omega arith) (omega arith) (omega arith) (ap (λ n. take n c.put.new.out) (sym end) ∙ tid)
+    (omega arith) (omega arith) (omega arith) (ap (λ n. take n c.put.new.out) (sym end) ∙ control)
 
 pub returns-else-is_qos-clause-layout : goal.returns-else-is_qos-clause-layout
 returns-else-is_qos-clause-layout c =
