@@ -7,9 +7,11 @@ use Rattle.std.proofs.lemmas.Int.{ints}
 use Rattle.wf_frame.specs.declared.settings.Config.{Config}
 use Rattle.wf_frame.specs.declared.classes.Class.{Class}
 use Rattle.wf_frame.specs.declared.notes.AskedRate.{AskedRate}
+use Rattle.wf_frame.specs.declared.notes.ServiceAsk.{ServiceAsk}
+use Rattle.wf_frame.specs.declared.notes.ServiceReply.{ServiceReply}
 use Rattle.wf_frame.specs.declared.notes.Note.TheVariants.{Asked}
-use Rattle.wf_frame.specs.declared.notes.Ask.TheVariants.{Rate as Rates, Tick, Sleep, Wake, Poll, Rx, Reap, Ampdu, Stop, Start}
-use Rattle.wf_frame.specs.declared.notes.ReplyNote.TheVariants.{Set, Now, Slept, Woken, Polled, Charged, Reaped, Stopped, Started, Refused}
+use Rattle.wf_frame.specs.declared.notes.Ask.TheVariants.{Rate as Rates, Tick, Sleep, Wake, Poll, Rx, Reap, Ampdu, Stop, Start, Service}
+use Rattle.wf_frame.specs.declared.notes.ReplyNote.TheVariants.{Set, Now, Slept, Woken, Polled, Charged, Reaped, Stopped, Started, Service as Services, Refused}
 use Rattle.wf_frame.specs.declared.notes.Refusal.TheVariants.{Debt, Nothing}
 use Rattle.wf_frame.specs.Frames.{FrameValue}
 use Rattle.wf_def_air.specs.Airtime.{Rate}
@@ -17,7 +19,8 @@ use Rattle.wf_def_lists.specs.Bounds.{deepest_deficit}
 use Rattle.wf_def_world.specs.Rates.{rate_asked}
 use Rattle.wf_def_world.specs.World.{World, is_live, share, pending_air}
 use Rattle.wf_def_world.specs.Refusals.{refusal}
-use Rattle.wf_def_world.specs.Step.{class_to_send}
+use Rattle.wf_def_world.specs.Service.{station_served}
+use Rattle.wf_def_world.specs.Step.{class_to_send, service_answer}
 use Rattle.wf_send_parts.specs.Tally.{counts_of}
 use Rattle.wf_queue_flows.specs.Flows.{FlowsValue}
 use Rattle.wf_queue_flows_refines.specs.Standing.{ids, with_finished}
@@ -27,13 +30,13 @@ use Rattle.wf_sched_refines.proofs.Charges.{debt_same}
 use Rattle.wf_send_parts.specs.declared.stations.members.Member.{Member}
 use Rattle.wf_send_parts.specs.Members.{member, on_member, new_member, with_rate, with_ampdu, with_receipt}
 use Rattle.wf_send_parts.specs.declared.stations.sleepers.Sleeper.{Sleeper}
-use Rattle.wf_send_parts.specs.Sleepers.{sleeper, with_sleeper, awake, woken}
+use Rattle.wf_send_parts.specs.Sleepers.{sleeper, with_sleeper, awake, woken, sleeper_after}
 use Rattle.wf_send_half_model.specs.Half.{TransmitValue, pending_air_of}
 use Rattle.wf_send_half_model.specs.Standing.{StandsFor, Meets}
-use Rattle.wf_send_half_model.specs.Changes.{after_listing, after_listing_in, after_admission}
+use Rattle.wf_send_half_model.specs.Changes.{after_service_call, after_listing, after_listing_in, after_admission}
 use Rattle.wf_send_half_model.proofs.Readers.{pending_same, deficit_same}
 use Rattle.wf_send_half_model.proofs.Receipts.{after_receipt, rx_meets}
-use Rattle.wf_send_half_model.proofs.Whole.{tick_meets, reap_meets, rate_meets, ampdu_meets, stop_meets, start_meets, sleep_meets, wake_meets, poll_meets}
+use Rattle.wf_send_half_model.proofs.Whole.{service_meets, tick_meets, reap_meets, rate_meets, ampdu_meets, stop_meets, start_meets, sleep_meets, wake_meets, poll_meets}
 use Rattle.wf_send_half.specs.declared.half.Half.TheInside.{Inside}
 use Rattle.wf_send_half.proofs.Rows.{last_row, live_of, refused_call}
 use Rattle.wf_send_half.proofs.Worlds.{met_by}
@@ -154,6 +157,21 @@ module _ (v x : TransmitValue) (same : x ≡ v) (w : World) (bodies : ℕ → Fr
             (record (sleeper x.sleepers s) { credit = Some k });
       }) s) (Polled k)) (sym is)
       (poll_meets x w bodies at_x s (sym done)))
+
+  -- a call about the service periods of a station changes its sleeper
+  pub service_done : (ask : ServiceAsk) (given : ServiceReply) (sleepers : List Sleeper)
+      (y : TransmitValue) → given ≡ service_answer w ask → sleepers
+      ≡ with_sleeper x.sleepers (station_served ask)
+      (sleeper_after ask (sleeper x.sleepers (station_served ask))) →
+      y ≡ after_listing (record x { sleepers = sleepers }) (station_served ask) →
+      None ≡ refusal w (Asked (Service ask)) → Meets w bodies (Asked (Service ask)) y (Services given)
+  service_done ask given sleepers y is e listed done =
+      met_by (after_listing (after_service_call x ask) (station_served ask)) y w bodies
+      (Asked (Service ask)) (Services given)
+      (listed ∙ ap (λ (z : List Sleeper). after_listing (record x { sleepers = z }) (station_served ask)) e)
+      (subst (λ (k : ServiceReply). Meets w bodies (Asked (Service ask))
+      (after_listing (after_service_call x ask) (station_served ask)) (Services k)) (sym is)
+      (service_meets x w bodies at_x ask (sym done)))
 
   -- the greatest debt of the scheduler is the setting `debt` and the airtime in flight that counts
   debt_is : (s : ℕ) (c : Class) → x.config.debt + pending_air_of x s c ≡ w.config.debt + pending_air w s c

@@ -31,6 +31,7 @@ mod Admissions
 mod Concerned
 mod Endings
 mod Marked
+mod More
 mod ToSend
 mod Tracked
 pub mod Kept

@@ -149,11 +149,12 @@ ids_sent [] bodies = refl
 ids_sent (p ∷ pairs) bodies = ids_sent pairs (with_one_sent p.0 bodies)
 
 -- the frames of a batch are sent again as others
-sent_same : (kind : Kind) (e s t air : ℕ) (more : Bool) (pairs : List (ℕ × ℕ)) (bodies : ℕ → FrameValue) →
-    bodies_sent (Sends e s t air (part_sent None kind pairs) more) bodies ≡ with_all_sent pairs bodies
-sent_same Kind.Aggregate e s t air more pairs bodies = refl
-sent_same Kind.Plain e s t air more pairs bodies = refl
-sent_same Kind.Batch e s t air more pairs bodies = ids_sent pairs bodies
+sent_same : (kind : Kind) (e s t air : ℕ) (more eosp : Bool) (pairs : List (ℕ × ℕ))
+    (bodies : ℕ → FrameValue) →
+    bodies_sent (Sends e s t air (part_sent None kind pairs) more eosp) bodies ≡ with_all_sent pairs bodies
+sent_same Kind.Aggregate e s t air more eosp pairs bodies = refl
+sent_same Kind.Plain e s t air more eosp pairs bodies = refl
+sent_same Kind.Batch e s t air more eosp pairs bodies = ids_sent pairs bodies
 
 -- ---- the station that is picked
 
@@ -246,15 +247,18 @@ module _ {v u : TransmitValue} {w : World} {bodies : ℕ → FrameValue} {s : �
       request_sent : (start : ℕ) → IsRequestDue y z s t charge start →
           Meets w bodies (Asked (Pull c l))
           (after_listing_in (after_sending z s t c charge (Starts_at start)) s c)
-          (Sends z.exchanges s t charge (Starts start) (open_next z s t c charge (Starts_at start)).more)
+          (Sends z.exchanges s t charge (Starts start) (open_next z s t c charge (Starts_at start)).more
+          (open_next z s t c charge (Starts_at start)).eosp)
       request_sent start k =
           subst (λ (x : TransmitValue). Meets w bodies (Asked (Pull c l))
           (after_listing_in (after_sending x s t c charge (Starts_at start)) s c)
-          (Sends x.exchanges s t charge (Starts start) (open_next x s t c charge (Starts_at start)).more))
+          (Sends x.exchanges s t charge (Starts start) (open_next x s t c charge (Starts_at start)).more
+          (open_next x s t c charge (Starts_at start)).eosp))
           (sym k.same)
           (subst (λ (n : ℕ). Meets w bodies (Asked (Pull c l))
           (after_listing_in (after_sending y s t c charge (Starts_at n)) s c)
-          (Sends y.exchanges s t charge (Starts n) (open_next y s t c charge (Starts_at n)).more))
+          (Sends y.exchanges s t charge (Starts n) (open_next y s t c charge (Starts_at n)).more
+          (open_next y s t c charge (Starts_at n)).eosp))
           (sym k.start_is)
           (request_meets v w bodies h.stands c l s h.passes h.won t
           (t_is ∙ tid_of) y turned_half k.due charge k.charge_is))
@@ -263,7 +267,8 @@ module _ {v u : TransmitValue} {w : World} {bodies : ℕ → FrameValue} {s : �
           Meets w (with_all_sent pairs bodies) (Asked (Pull c l))
           (after_listing_in (after_sending z s t c charge (Data numbers)) s c)
           (Sends z.exchanges s t charge (part_sent None (kind_in z s t) pairs)
-          (open_next z s t c charge (Data numbers)).more)
+          (open_next z s t c charge (Data numbers)).more
+          (open_next z s t c charge (Data numbers)).eosp)
       data_sent numbers k =
           let quiet : request_due (session turned_world s t) ≡ false =
           sym (due_is (window_of y.windows s t) (session turned_world s t) bodies
@@ -273,7 +278,8 @@ module _ {v u : TransmitValue} {w : World} {bodies : ℕ → FrameValue} {s : �
           (bounds_turned b b_is) in
           subst (λ (part : Part). Meets w (with_all_sent pairs bodies) (Asked (Pull c l))
           (after_listing_in (after_sending z s t c charge (Data numbers)) s c)
-          (Sends z.exchanges s t charge part (open_next z s t c charge (Data numbers)).more))
+          (Sends z.exchanges s t charge part (open_next z s t c charge (Data numbers)).more
+          (open_next z s t c charge (Data numbers)).eosp))
           (part_same (is_offloaded_in z.members s) (is_plain_of z s t) (aggregate_of turned_world s t).mpdus
           ∙ ap (part_sent None (kind_in z s t)) (sym p.pairs_are))
           (data_meets v w bodies h.stands c l s h.passes h.won t (t_is ∙ tid_of)
@@ -282,24 +288,28 @@ module _ {v u : TransmitValue} {w : World} {bodies : ℕ → FrameValue} {s : �
 
       all_sent : (sending : Sending) → IsPreparedFor y z s t b charge pairs sending →
           Meets w (bodies_sent (reply_with (Send z.exchanges s t charge (start_sent sending)
-          (kind_in z s t) (open_next z s t c charge sending).more) pairs []) bodies)
+          (kind_in z s t) (open_next z s t c charge sending).more
+          (open_next z s t c charge sending).eosp) pairs []) bodies)
           (Asked (Pull c l)) (after_listing_in (after_sending z s t c charge sending) s c)
           (reply_with (Send z.exchanges s t charge (start_sent sending) (kind_in z s t)
-          (open_next z s t c charge sending).more) pairs [])
+          (open_next z s t c charge sending).more
+          (open_next z s t c charge sending).eosp) pairs [])
       all_sent (Data numbers) k =
           let kind : Kind = kind_in z s t in
           let more : Bool = (open_next z s t c charge (Data numbers)).more in
+          let eosp : Bool = (open_next z s t c charge (Data numbers)).eosp in
           subst (λ (f : ℕ → FrameValue). Meets w f (Asked (Pull c l))
           (after_listing_in (after_sending z s t c charge (Data numbers)) s c)
-          (Sends z.exchanges s t charge (part_sent None kind pairs) more))
-          (sym (sent_same kind z.exchanges s t charge more pairs bodies)) (data_sent numbers k)
+          (Sends z.exchanges s t charge (part_sent None kind pairs) more eosp))
+          (sym (sent_same kind z.exchanges s t charge more eosp pairs bodies)) (data_sent numbers k)
       all_sent (Starts_at start) k = request_sent start k
 
       pub pull_done : (sending : Sending) → IsPreparedFor y z s t b charge pairs sending →
           {a : TransmitValue} →
           a ≡ after_listing_in (after_sending z s t c charge sending) s c →
           {brief : Brief} → brief ≡ Send z.exchanges s t charge (start_sent sending)
-          (kind_in z s t) (open_next z s t c charge sending).more →
+          (kind_in z s t) (open_next z s t c charge sending).more
+          (open_next z s t c charge sending).eosp →
           Meets w (bodies_sent (reply_with brief pairs []) bodies) (Asked (Pull c l)) a
           (reply_with brief pairs [])
       pull_done sending k {a} a_is {brief} brief_is =

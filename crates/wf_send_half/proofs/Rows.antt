@@ -24,9 +24,10 @@ use Rattle.wf_send_parts.specs.declared.stations.members.Member.{Member}
 use Rattle.wf_send_parts.specs.Modes.{is_set_in, any_set_in}
 use Rattle.wf_send_parts.specs.Window.{waits}
 use Rattle.wf_send_parts.specs.Windows.{window_of}
+use Rattle.wf_send_parts.specs.declared.stations.sleepers.Sleeper.{Sleeper}
 use Rattle.wf_send_parts.specs.Sleepers.{sleeper}
 use Rattle.wf_send_half_model.specs.Half.{TransmitValue, is_agreed_of, is_held_back_of, has_live_credit_of}
-use Rattle.wf_send_half_model.specs.Standing.{StandsFor, Meets}
+use Rattle.wf_send_half_model.specs.Standing.{sleeper_of, StandsFor, Meets}
 use Rattle.wf_send_half_model.proofs.Asked.{rate_read}
 use Rattle.wf_send_half_model.proofs.Readers.{live_same, offloaded_same, tid_count_same, agreed_same, held_back_same, waiting_count_same, live_credit_same}
 use Rattle.wf_send_half_model.proofs.Meets.{refused_meets}
@@ -120,11 +121,19 @@ module _ (v : TransmitValue) (w : World) (bodies : ℕ → FrameValue) (h : Stan
   pub credit_same : is_live w s ≡ true → has_live_credit w s ≡ has_live_credit_of v s
   credit_same live = sym (live_credit_same v w bodies s h.parts live)
 
+  -- the power save of a live station
+  pub rests_same : is_live w s ≡ true → sleeper v.sleepers s ≡ sleeper_of (station w s)
+  rests_same live = h.parts.others.stations.rests s live
+
   pub asleep_same : is_live w s ≡ true → (station w s).asleep ≡ (sleeper v.sleepers s).asleep
-  asleep_same live = sym (h.parts.others.stations.asleep s live)
+  asleep_same live = sym (ap (λ (y : Sleeper). y.asleep) (rests_same live))
 
   pub stopped_same : is_live w s ≡ true → (station w s).stopped ≡ (sleeper v.sleepers s).stopped
-  stopped_same live = sym (h.parts.others.stations.stopped s live)
+  stopped_same live = sym (ap (λ (y : Sleeper). y.stopped) (rests_same live))
+
+  -- whether a service period is open
+  pub service_same : is_live w s ≡ true → (station w s).service ≡ (sleeper v.sleepers s).service
+  service_same live = sym (ap (λ (y : Sleeper). y.service) (rests_same live))
 
   -- the row about the setting `legacy`
   pub rate_row : (r : Rate) → is_rate_with w.config.legacy r ≡ is_rate_with v.config.legacy r

@@ -26,6 +26,7 @@ use Rattle.wf_def_world.specs.Step.{Outcome, outcome_of, pull_outcome, pull_outc
 use Rattle.wf_law_runs.proofs.Deficits.KeptStep.{NoRow, no_row}
 use Rattle.wf_law_runs.proofs.Windows.Opened.{pick_ready, left_true}
 use Rattle.wf_send_half_model.specs.Half.{TransmitValue, is_ready_of}
+use Rattle.wf_send_half_model.specs.Readiness.{ends_service}
 use Rattle.wf_send_half_model.specs.Standing.{StandsFor, Meets}
 use Rattle.wf_send_half_model.specs.Filling.{after_pick_within}
 use Rattle.wf_send_half_model.proofs.Pulled.{ready_pulled}
@@ -36,8 +37,8 @@ use Rattle.wf_send_parts.specs.declared.stations.members.Member.{Member}
 use Rattle.wf_send_parts.specs.Members.{member}
 use Rattle.wf_send_half.specs.Replies.{bodies_sent}
 use Rattle.wf_send_half.specs.Half.{HasUnheardWorld}
-use Rattle.wf_send_half.specs.Flags.{Flags, flags_in, with_flag, AreFlags, IsTracked}
-use Rattle.wf_send_half.proofs.FlagSteps.{AreNearly, all_set, set_alone}
+use Rattle.wf_send_half.specs.Flags.{Flags, flags_in, with_flag, with_flags, AreFlags, FlagsHaveRoom, IsTracked}
+use Rattle.wf_send_half.proofs.FlagSteps.{AreNearly, all_set, set_four, set_alone}
 use Rattle.wf_send_half.proofs.Kept.{Leaves, kept_unheard, same_config, nearly}
 
 -- a station sends
@@ -49,7 +50,8 @@ pub record HasSent (winner : Option ℕ) (reply : ReplyNote) : Type 0 where
   pub air : ℕ
   pub part : Part
   pub more : Bool
-  pub is : reply ≡ Send exchange station tid air part more
+  pub eosp : Bool
+  pub is : reply ≡ Send exchange station tid air part more eosp
 
 -- the reply of a pull: a station sends, or the pull is refused
 pub data Says (w : World) (c : Class) (l : Limits) (reply : ReplyNote) : Type 0 where
@@ -71,6 +73,7 @@ sent_for w c (Some s) e =
       air = x.charge;
       part = part_of x.batch x.plain x.content;
       more = x.more;
+      eosp = x.eosp;
       is = refl;
     }
 
@@ -91,29 +94,32 @@ says w c l = from (refusal w (Asked (Pull c l))) refl
         (step_done w (Asked (Pull c l)) e))) (Sends (sent_by w c l rows.1.1.0))
 
 -- the station that sends was picked
-pub sender_won : (w : World) (c : Class) (l : Limits) (e s t air : ℕ) (part : Part) (more : Bool) →
-    Send e s t air part more ≡ (step w (Asked (Pull c l))).reply → (picked_station w c).winner ≡ Some s
-sender_won w c l e s t air part more is = from (says w c l)
+pub sender_won : (w : World) (c : Class) (l : Limits) (e s t air : ℕ) (part : Part)
+    (more eosp : Bool) → Send e s t air part more eosp ≡ (step w (Asked (Pull c l))).reply →
+    (picked_station w c).winner ≡ Some s
+sender_won w c l e s t air part more eosp is = from (says w c l)
   where
     from : Says w c l (step w (Asked (Pull c l))).reply → (picked_station w c).winner ≡ Some s
     from (Refuses r h how) = absurd (let k = is ∙ how in cc k)
     from (Sends sent) =
-        let k : Send e s t air part more ≡ Send sent.exchange sent.station sent.tid sent.air sent.part
-        sent.more = is ∙ sent.is in
+        let k : Send e s t air part more eosp ≡ Send sent.exchange sent.station sent.tid sent.air sent.part
+        sent.more sent.eosp = is ∙ sent.is in
         let same : s ≡ sent.station = cc k in
         sent.won ∙ ap (λ (n : ℕ). Some n) (sym same)
 
 -- ---- the flags
 
--- after a refused pull all flags are right, after any other all except that of the station that sends
+-- after a refused pull all flags are right, after any other all except that of the station that sends, or its
+-- four if the exchange ends a service period
 module _ (v y : TransmitValue) (r : Flags) (flags : AreFlags v r) (w : World) (bodies after : ℕ → FrameValue)
     (c : Class) (l : Limits) (reply : ReplyNote) (h : StandsFor v w bodies)
     (m : Meets w after (Asked (Pull c l)) y reply) where
-  pub nearly_pulled : (Q : ℕ → Class → Type 0) →
-      ((s : ℕ) (d : Class) → (picked_station w c).winner ≡ Some s → d ≡ c → Q s d) → AreNearly y r Q
-  nearly_pulled Q left =
+  pub nearly_pulled : (Q : ℕ → Class → Type 0) → ((s : ℕ) (d : Class) → (Q s d → ⊥) →
+      (picked_station w c).winner ≡ Some s → (c ≡ d → ⊥) × (ends_service reply ≡ false)) → AreNearly y r Q
+  nearly_pulled Q apart =
       nearly v y r flags w bodies after (Asked (Pull c l)) reply h m Q
-      (λ s d out. ready_pulled w c l h.reached s d (λ won same. out (left s d won (sym same))))
+      (λ s d out. ready_pulled w c l h.reached s d (λ won.
+      let k = apart s d out won in (k.0, ap ends_service (sym m.reply) ∙ k.1)))
 
 -- ---- the station that is picked
 
@@ -152,16 +158,17 @@ pub record IsSend (b : Brief) : Type 0 where
   pub request : Option ℕ
   pub kind : Kind
   pub more : Bool
-  pub is : b ≡ brief.Send exchange station tid air request kind more
+  pub eosp : Bool
+  pub is : b ≡ brief.Send exchange station tid air request kind more eosp
 
-send_only : (b : Brief) (pairs : List (ℕ × ℕ)) (e s t air : ℕ) (part : Part) (more : Bool) →
-    reply_with b pairs [] ≡ Send e s t air part more → IsSend b
-send_only brief.Joined pairs e s t air part more is = absurd (cc is)
-send_only (brief.Left dropped) pairs e s t air part more is = absurd (cc is)
-send_only brief.Set pairs e s t air part more is = absurd (cc is)
-send_only (brief.Now now) pairs e s t air part more is = absurd (cc is)
-send_only (brief.Accepted id dropped) pairs e s t air part more is = absurd (cc is)
-send_only (brief.Send a i j n request kind k) pairs e s t air part more is = record {
+send_only : (b : Brief) (pairs : List (ℕ × ℕ)) (e s t air : ℕ) (part : Part)
+    (more eosp : Bool) → reply_with b pairs [] ≡ Send e s t air part more eosp → IsSend b
+send_only brief.Joined pairs e s t air part more eosp is = absurd (cc is)
+send_only (brief.Left dropped) pairs e s t air part more eosp is = absurd (cc is)
+send_only brief.Set pairs e s t air part more eosp is = absurd (cc is)
+send_only (brief.Now now) pairs e s t air part more eosp is = absurd (cc is)
+send_only (brief.Accepted id dropped) pairs e s t air part more eosp is = absurd (cc is)
+send_only (brief.Send a i j n request kind k f) pairs e s t air part more eosp is = record {
   exchange = a;
   station = i;
   tid = j;
@@ -169,27 +176,29 @@ send_only (brief.Send a i j n request kind k) pairs e s t air part more is = rec
   request = request;
   kind = kind;
   more = k;
+  eosp = f;
   is = refl;
 }
-send_only brief.Released pairs e s t air part more is = absurd (cc is)
-send_only (brief.Ba start b0 b1 b2 b3 wide) pairs e s t air part more is = absurd (cc is)
-send_only (brief.Done acked waiting failed) pairs e s t air part more is = absurd (cc is)
-send_only brief.Slept pairs e s t air part more is = absurd (cc is)
-send_only brief.Woken pairs e s t air part more is = absurd (cc is)
-send_only (brief.Polled class) pairs e s t air part more is = absurd (cc is)
-send_only (brief.Charged deficit) pairs e s t air part more is = absurd (cc is)
-send_only (brief.Reaped id fate) pairs e s t air part more is = absurd (cc is)
-send_only brief.Stopped pairs e s t air part more is = absurd (cc is)
-send_only brief.Started pairs e s t air part more is = absurd (cc is)
-send_only brief.Marked pairs e s t air part more is = absurd (cc is)
-send_only (brief.Flushed dropped) pairs e s t air part more is = absurd (cc is)
-send_only brief.Ack pairs e s t air part more is = absurd (cc is)
-send_only (brief.Held start) pairs e s t air part more is = absurd (cc is)
-send_only brief.Begun pairs e s t air part more is = absurd (cc is)
-send_only brief.Freed pairs e s t air part more is = absurd (cc is)
-send_only (brief.Ceased dropped) pairs e s t air part more is = absurd (cc is)
-send_only (brief.Group answer) pairs e s t air part more is = absurd (cc is)
-send_only (brief.Refused refusal) pairs e s t air part more is = absurd (cc is)
+send_only brief.Released pairs e s t air part more eosp is = absurd (cc is)
+send_only (brief.Ba start b0 b1 b2 b3 wide) pairs e s t air part more eosp is = absurd (cc is)
+send_only (brief.Done acked waiting failed) pairs e s t air part more eosp is = absurd (cc is)
+send_only brief.Slept pairs e s t air part more eosp is = absurd (cc is)
+send_only brief.Woken pairs e s t air part more eosp is = absurd (cc is)
+send_only (brief.Polled class) pairs e s t air part more eosp is = absurd (cc is)
+send_only (brief.Charged deficit) pairs e s t air part more eosp is = absurd (cc is)
+send_only (brief.Reaped id fate) pairs e s t air part more eosp is = absurd (cc is)
+send_only brief.Stopped pairs e s t air part more eosp is = absurd (cc is)
+send_only brief.Started pairs e s t air part more eosp is = absurd (cc is)
+send_only brief.Marked pairs e s t air part more eosp is = absurd (cc is)
+send_only (brief.Flushed dropped) pairs e s t air part more eosp is = absurd (cc is)
+send_only brief.Ack pairs e s t air part more eosp is = absurd (cc is)
+send_only (brief.Held start) pairs e s t air part more eosp is = absurd (cc is)
+send_only brief.Begun pairs e s t air part more eosp is = absurd (cc is)
+send_only brief.Freed pairs e s t air part more eosp is = absurd (cc is)
+send_only (brief.Ceased dropped) pairs e s t air part more eosp is = absurd (cc is)
+send_only (brief.Group answer) pairs e s t air part more eosp is = absurd (cc is)
+send_only (brief.Service answer) pairs e s t air part more eosp is = absurd (cc is)
+send_only (brief.Refused refusal) pairs e s t air part more eosp is = absurd (cc is)
 
 -- ---- a whole pull
 
@@ -209,10 +218,10 @@ module _ (x : TransmitValue) (r : Flags) (h : IsTracked x r) (c : Class) (l : Li
   pulled_unheard = kept_unheard x u sent (Asked (Pull c l)) (reply_with b pairs []) meets tt h.some
 
   -- a station sends
-  module _ (e s t air : ℕ) (request : Option ℕ) (kind : Kind) (more : Bool)
-      (is : b ≡ brief.Send e s t air request kind more) where
+  module _ (e s t air : ℕ) (request : Option ℕ) (kind : Kind) (more eosp : Bool)
+      (is : b ≡ brief.Send e s t air request kind more eosp) where
     won : (picked_station h.some.world c).winner ≡ Some s
-    won = sender_won h.some.world c l e s t air _ more
+    won = sender_won h.some.world c l e s t air _ more eosp
         (sym (ap (λ (z : Brief). reply_with z pairs []) is) ∙ met.reply)
 
     pub sender_low : s < x.config.stations
@@ -227,13 +236,34 @@ module _ (x : TransmitValue) (r : Flags) (h : IsTracked x r) (c : Class) (l : Li
     pub sender_room : s < length (flags_in r c)
     sender_room = omega (arith, sender_low, (h.flags c).stations)
 
-    pub tracked_sender : (z : Flags) → z ≡ with_flag r c s (is_ready_of u c s) → IsTracked u z
-    tracked_sender z set = subst (IsTracked u) (sym set) (record {
+    pub sender_rooms : FlagsHaveRoom r s
+    sender_rooms d = omega (arith, sender_low, (h.flags d).stations)
+
+    ends : ends_service (reply_with b pairs []) ≡ eosp
+    ends = ap (λ (z : Brief). ends_service (reply_with z pairs [])) is
+
+    -- the exchange ends no service period
+    pub tracked_sender : eosp ≡ false → (z : Flags) → z ≡ with_flag r c s (is_ready_of u c s) → IsTracked u z
+    tracked_sender goes_on z set = subst (IsTracked u) (sym set) (record {
       some = pulled_unheard;
       flags = set_alone u r s c
           (nearly_pulled x u r h.flags h.some.world h.some.bodies (sent h.some.bodies) c l _ h.some.stands met
           (λ i d. (i ≡ s) × (d ≡ c))
-          (λ i d wins same. (let k : Some i ≡ Some s = sym wins ∙ won in cc k, same)))
+          (λ i d out wins. (
+            λ same. out (let k : Some i ≡ Some s = sym wins ∙ won in cc k, sym same),
+            ends ∙ goes_on,
+          )))
+          sender_within;
+    })
+
+    -- it may end one
+    pub tracked_last : (z : Flags) → z ≡ with_flags r u s → IsTracked u z
+    tracked_last z set = subst (IsTracked u) (sym set) (record {
+      some = pulled_unheard;
+      flags = set_four u r s
+          (nearly_pulled x u r h.flags h.some.world h.some.bodies (sent h.some.bodies) c l _ h.some.stands met
+          (λ i d. i ≡ s)
+          (λ i d out wins. absurd (out (let k : Some i ≡ Some s = sym wins ∙ won in cc k))))
           sender_within;
     })
 
@@ -251,5 +281,5 @@ module _ (x : TransmitValue) (r : Flags) (h : IsTracked x r) (c : Class) (l : Li
       from : Says h.some.world c l (step h.some.world (Asked (Pull c l))).reply → (s : ℕ) (d : Class) →
           is_ready (step h.some.world (Asked (Pull c l))).world d s ≡ is_ready h.some.world d s
       from (Sends sent) s d = absurd (none (send_only b pairs sent.exchange sent.station sent.tid sent.air
-          sent.part sent.more (met.reply ∙ sent.is)))
+          sent.part sent.more sent.eosp (met.reply ∙ sent.is)))
       from (Refuses why is how) s d = ready_refused h.some.world (Asked (Pull c l)) why is s d

@@ -1,12 +1,12 @@
 -- Defines the states between the steps of a pull: the condition and the effect of each step.
-use Rattle.std.specs.Prelude.{◌≡◌, ℕ, ◌%◌, ◌≤◌, ◌||◌, Bool, true, false, List, [], length, Option, None, Some, is_some, option_map, map, take, drop, IfSome, if◌then◌else◌}
+use Rattle.std.specs.Prelude.{◌≡◌, ℕ, ◌%◌, ◌≤◌, Bool, true, false, List, [], length, Option, None, Some, is_some, option_map, map, take, drop, IfSome}
 use Rattle.wf_frame.specs.declared.classes.Class.{Class}
 use Rattle.wf_frame.specs.declared.notes.Ask.TheVariants.{Pull}
 use Rattle.wf_frame.specs.declared.notes.Note.TheVariants.{Asked}
 use Rattle.wf_frame.specs.declared.answers.Brief.TheVariants.{Send}
 use Rattle.wf_frame.specs.declared.answers.Kind.{Kind}
 use Rattle.wf_frame.specs.Frames.{FrameValue}
-use Rattle.wf_def_air.specs.Airtime.{Rate, is_single, request_charge}
+use Rattle.wf_def_air.specs.Airtime.{Rate, request_charge}
 use Rattle.wf_def_air.specs.Fit.{most_octets}
 use Rattle.wf_def_codel.specs.Codel.{Params}
 use Rattle.wf_def_codel.specs.Parameters.{params_at}
@@ -34,20 +34,20 @@ use Rattle.wf_send_parts.specs.Sent.{with_all_sent}
 use Rattle.wf_send_parts.specs.Windows.{WindowsHaveRoom, window_of, with_window}
 use Rattle.wf_send_half_model.specs.Half.{TransmitValue, is_plain_of, is_ready_of}
 use Rattle.wf_send_half_model.specs.Standing.{StandsFor, numbers_on_air}
-use Rattle.wf_send_half_model.specs.Pulling.{is_wide_of}
+use Rattle.wf_send_half_model.specs.Pulling.{is_wide_of, frames_allowed_of}
 use Rattle.wf_send_half.specs.declared.bounds.Bounds.{Bounds as BoundsGiven}
 use Rattle.wf_send_half.specs.declared.pull.Pulled.{Pulled}
 use Rattle.wf_send_half_model.specs.Filling.{IsTurned, IsToFill, IsChoosing, IsFilling, IsTakingOff, after_take, after_giving}
 
 -- the bounds of a pull, as those of the world
 abbrev pub bounds_in : BoundsGiven → Bounds
-bounds_in b = record { frames = b.frames; air = b.air }
+bounds_in b = record { class = b.class; frames = b.frames; air = b.air }
 
--- the limits of an aggregate to a station in a pull with these bounds: one frame if the station sleeps
+-- the limits of an aggregate to a station in a pull with these bounds
 abbrev pub size_limits_of : TransmitValue → ℕ → Bounds → Member → SizeLimits
 size_limits_of v s b m = record {
   octets = most_octets m.rate m.exponent m.ampdu;
-  frames = if (sleeper v.sleepers s).asleep || is_single m.rate then 1 else b.frames;
+  frames = frames_allowed_of (sleeper v.sleepers s) m.rate b;
   time = b.air;
 }
 
@@ -189,8 +189,8 @@ kind_in v s t = kind_of (is_offloaded_in v.members s) (is_plain_of v s t)
 
 -- if a station sends, the result says whether it is ready in the class afterwards
 abbrev pub IsSenderTold : TransmitValue → Class → Pulled → Type 0
-IsSenderTold v c p = (e s t air : ℕ) (request : Option ℕ) (kind : Kind) (more : Bool) →
-    p.brief ≡ Send e s t air request kind more → p.is_ready ≡ is_ready_of v c s
+IsSenderTold v c p = (e s t air : ℕ) (request : Option ℕ) (kind : Kind) (more eosp : Bool) →
+    p.brief ≡ Send e s t air request kind more eosp → p.is_ready ≡ is_ready_of v c s
 
 -- u is v after a pull with these limits picked station s in a class, and v represents w
 pub record IsPickedInClass (v u : TransmitValue) (w : World) (bodies : ℕ → FrameValue) (s : ℕ)

@@ -21,8 +21,8 @@ reaped_reply (Some f) = Reaped f.id f.fate
 -- the frame of each id after a call with this reply; a frame that the reply sends counts one more
 -- transmission
 abbrev pub bodies_sent : ReplyNote → (ℕ → FrameValue) → ℕ → FrameValue
-bodies_sent (Send exchange station tid air (Mpdus pairs) more) bodies = with_all_sent pairs bodies
-bodies_sent (Send exchange station tid air (Plain pairs) more) bodies = with_all_sent pairs bodies
-bodies_sent (Send exchange station tid air (Batch ids) more) bodies =
+bodies_sent (Send exchange station tid air (Mpdus pairs) more eosp) bodies = with_all_sent pairs bodies
+bodies_sent (Send exchange station tid air (Plain pairs) more eosp) bodies = with_all_sent pairs bodies
+bodies_sent (Send exchange station tid air (Batch ids) more eosp) bodies =
     with_all_sent (map (λ id. (id, 0)) ids) bodies
 bodies_sent reply bodies = bodies

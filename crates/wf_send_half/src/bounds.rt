@@ -6,17 +6,21 @@ ghost use Rattle.wf_def_lists.specs.Bounds.{greatest_ampdu};
 ghost use Rattle.wf_air.specs.Rates.{longest_single};
 ghost use Rattle.wf_def_world.specs.Exchanges.{bounds_of, cap_of, limited};
 ghost use Rattle.wf_send_parts.specs.Members.{member};
+ghost use Rattle.wf_send_half_model.specs.Pulling.{frames_allowed_of};
 ghost use Rattle.wf_send_half.specs.Half.{IsLive};
 ghost use Rattle.wf_send_half.specs.Pulls.{bounds_in, size_limits_of, TakesAggregates};
 
 use crate::half::Half;
 use wf_air::fit::SizeLimits;
+use wf_air::time::Rate;
 use wf_frame::{Class, Limits};
+use wf_send_parts::stations::Sleeper;
 
-/// The bounds of a pull: the most frames, 1 to 256, and the greatest data time of an aggregate in
+/// The bounds of a pull: its class, the most frames, 1 to 256, and the greatest data time of an aggregate in
 /// microseconds.
 #[derive(Clone, Copy)]
 pub(crate) struct Bounds {
+    pub(crate) class: Class,
     pub(crate) frames: u16,
     pub(crate) air: u32,
 }
@@ -31,6 +35,24 @@ fn limited(limit: Option<u32>, number: u32) -> u32
     }
 }
 
+// Returns the most frames of an exchange at a rate to a station, in a pull with these bounds: one if the rate
+// has no aggregates, or the station asks for one by a poll; in a service period those that are left.
+fn frames_allowed(sleeper: Sleeper, rate: Rate, bounds: Bounds) -> u16
+    requires some { 1 ≤ bounds.frames }
+    requires few { bounds.frames ≤ 256 }
+    ensures exact { result ≡ frames_allowed_of sleeper rate (bounds_in bounds) }
+    ensures some { 1 ≤ result }
+    ensures few { result ≤ 256 }
+{
+    if (sleeper.asleep && !sleeper.is_served(bounds.class)) || rate.is_single() {
+        return 1;
+    }
+    match sleeper.service_limit(bounds.class) {
+        Some(left) => u16::from(left).min(bounds.frames),
+        None => bounds.frames,
+    }
+}
+
 impl Half {
     // Returns the bounds of a pull of a class with these limits: one frame may go whatever they are.
     pub(crate) fn bounds(&self, class: Class, limits: Limits) -> Bounds
@@ -40,6 +62,7 @@ impl Half {
     {
         let frames = limited(limits.frames, self.config.agg).max(1);
         Bounds {
+            class,
             frames: frames as u16,
             air: limited(limits.air, self.cap(class)),
         }
@@ -58,8 +81,7 @@ impl Half {
         if own == 0 { self.config.cap } else { own }
     }
 
-    // Returns the limits of an aggregate to a live station in a pull with these bounds: one frame if the
-    // station sleeps or its rate has no aggregates.
+    // Returns the limits of an aggregate to a live station in a pull with these bounds.
     pub(crate) fn size_limits(&self, station: u16, bounds: Bounds) -> SizeLimits
         requires within { station < self.now.config.stations }
         requires live { IsLive self.now station }
@@ -76,11 +98,7 @@ impl Half {
         let member = self.members.member(station);
         SizeLimits {
             octets: member.rate.most_octets(member.exponent, member.ampdu),
-            frames: if self.sleepers.asleep(station) || member.rate.is_single() {
-                1
-            } else {
-                bounds.frames
-            },
+            frames: frames_allowed(self.sleepers.at(station), member.rate, bounds),
             time: bounds.air,
         }
     }

@@ -92,8 +92,13 @@ impl Transmit {
         let pulled = self
             .half
             .pull(class, limits, self.ready.of(class), is_idle, pairs);
-        if let Brief::Send { station, .. } = pulled.brief {
-            self.ready.set(station, class, pulled.is_ready);
+        if let Brief::Send { station, eosp, .. } = pulled.brief {
+            if eosp {
+                // Without its service period the station may not be ready in other classes.
+                self.ready.set_all(&self.half, station);
+            } else {
+                self.ready.set(station, class, pulled.is_ready);
+            }
         }
         pulled.brief
     }

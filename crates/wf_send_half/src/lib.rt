@@ -28,6 +28,7 @@ mod queues;
 mod readers;
 mod ready;
 mod refuse;
+mod service;
 mod stations;
 mod transmit;
 pub mod unheard;

@@ -1,26 +1,25 @@
 //! The next exchange of a class.
 
-ghost use Rattle.std.specs.Prelude.{◌≡◌, ◌↔◌, ◌<◌, ◌^◌, ◌≤◌, ◌-◌, ◌==◌, ◌&&◌, ◌||◌, negsuc, pos, ◌-ℤ◌, ◌≤ℤ◌, ℕ, List, [], All, true, false, nat_le, nat_lt, count_by, length};
-ghost use Rattle.wf_frame.specs.Classes.{same_class, tid_number};
+ghost use Rattle.std.specs.Prelude.{◌≡◌, ◌↔◌, ◌<◌, ◌^◌, ◌≤◌, ◌-◌, ◌==◌, ◌&&◌, negsuc, pos, ◌-ℤ◌, ◌≤ℤ◌, ℕ, List, [], All, true, false, nat_le, count_by, length};
+ghost use Rattle.wf_frame.specs.Classes.{class_of, has_class, same_class};
 ghost use Rattle.wf_frame.specs.Frames.{FrameValue};
 ghost use Rattle.wf_frame.specs.Answers.{reply_with};
 ghost use Rattle.wf_frame.specs.declared.answers.Brief.TheVariants.{Send, Refused};
 ghost use Rattle.wf_frame.specs.declared.notes.Ask.TheVariants.{Pull};
 ghost use Rattle.wf_frame.specs.declared.notes.Note.TheVariants.{Asked};
 ghost use Rattle.wf_frame.specs.declared.notes.Refusal.TheVariants.{Full, Ahead, Idle};
-ghost use Rattle.wf_queue_flows.specs.Flows.{frames_of_tid};
 ghost use Rattle.wf_air.specs.Sizes.{SizeStandsFor};
 ghost use Rattle.wf_def_lists.specs.Bounds.{greatest_air};
 ghost use Rattle.wf_law_runs.specs.Rotations.{NoneReady};
 ghost use Rattle.wf_sched.specs.ClassRotas.{deficit};
 ghost use Rattle.wf_send_parts.specs.Exchanges.{airtime_of};
-ghost use Rattle.wf_send_parts.specs.Windows.{window_of};
+ghost use Rattle.wf_send_parts.specs.Sleepers.{sleeper, is_told_in};
 ghost use Rattle.wf_def_world.specs.World.{World, Mpdu};
-ghost use Rattle.wf_send_half_model.specs.Half.{some_wait, is_plain_of, is_ready_of, is_ahead_of};
+ghost use Rattle.wf_send_half_model.specs.Half.{is_plain_of, is_ready_of, is_ahead_of};
 ghost use Rattle.wf_send_half_model.specs.Standing.{StandsFor, Meets, numbers_on_air};
 ghost use Rattle.wf_send_half_model.specs.Changes.{after_listing_in};
 ghost use Rattle.wf_send_half_model.specs.Filling.{IsTakingOff, charge_in};
-ghost use Rattle.wf_send_half_model.specs.Pulling.{sending_tid_of, after_turn, has_more_of, open_next, after_sending};
+ghost use Rattle.wf_send_half_model.specs.Pulling.{sending_tid_of, after_turn, has_some_of, has_more_in_of, has_more_of, more_data_of, ends_period_of, open_next, after_sending};
 ghost use Rattle.wf_send_half.specs.Replies.{bodies_sent};
 ghost use Rattle.wf_send_half.specs.Half.{HasWorld, IsLive};
 ghost use Rattle.wf_send_half.specs.Pulls.{bounds_in, IsSenderTold, TellsWhoIsReady, TakesAggregates, IsSameButFrames, HasTakingOff, IsFlying, HasToPrepare, IsPreparedFor, start_sent, kind_of, kind_in};
@@ -137,8 +136,8 @@ impl Half {
         self.config.pending == 1 && is_idle
     }
 
-    // Opens an exchange, which spends the credit of its station. With the setting `pending` the station's
-    // standing falls by the charge.
+    // Opens an exchange, which spends the credit of its station, or frames of its service period. With the
+    // setting `pending` the station's standing falls by the charge.
     fn put_on_air(&mut self, station: u16, tid: u8, class: Class, prepared: Prepared) -> Pulled
         requires within { station < self.old.config.stations }
         requires tid { tid < 8 }
@@ -153,13 +152,16 @@ impl Half {
         ensures brief { result.brief ≡ Send self.old.exchanges station tid prepared.charge
             (start_sent prepared.sending)
             (kind_in self.old station tid)
-            (open_next self.old station tid class prepared.charge prepared.sending).more }
+            (open_next self.old station tid class prepared.charge prepared.sending).more
+            (open_next self.old station tid class prepared.charge prepared.sending).eosp }
         ensures ready { result.is_ready ≡ is_ready_of self.new class station }
     {
         let exchange = self.exchanges;
         let charge = prepared.charge;
         let request = prepared.request;
-        let more = self.sleepers.asleep(station) && request.is_none() && self.has_more(station);
+        let frames = prepared.sending.frames();
+        let more = self.has_more_data(station, class, &prepared.sending);
+        let eosp = self.is_last(station, class, &prepared.sending, more);
         let batch = self.members.is_offloaded(station);
         let plain = self.is_plain(station, tid);
         self.opened.push(Open {
@@ -170,6 +172,7 @@ impl Half {
             charge,
             sending: prepared.sending,
             more,
+            eosp,
             batch,
             plain,
             unsent: Bits256::empty(),
@@ -178,7 +181,7 @@ impl Half {
         self.exchanges += 1;
         let is_on = self.config.pending == 1;
         charge_opened(&mut self.sched, station, class, charge, is_on);
-        self.sleepers.spend(station);
+        self.sleepers.spend(station, class, frames, eosp);
         let is_ready = self.list_in(station, class);
         let brief = Brief::Send {
             exchange,
@@ -188,33 +191,74 @@ impl Half {
             request,
             kind: kind_of(batch, plain),
             more,
+            eosp,
         };
         Pulled { brief, is_ready }
     }
 
-    // Returns whether a number waits or a frame is queued on some TID of a station.
+    // Returns the More Data bit of an exchange of a class that sends this: something waits for a station that
+    // sleeps. In a service period it is about the delivery-enabled classes, otherwise about those of a poll.
+    fn has_more_data(&self, station: u16, class: Class, sending: &Sending) -> bool
+        requires within { station < self.now.config.stations }
+        ensures { result ≡ more_data_of self.now station class sending.now }
+    {
+        let sleeper = self.sleepers.at(station);
+        sleeper.asleep && !sending.is_request() && self.has_more_told(station, class)
+    }
+
+    // Returns whether an exchange of a class that sends this is the last of a service period: nothing is left
+    // of it, or nothing waits. `more` is the More Data bit of the exchange.
+    fn is_last(&self, station: u16, class: Class, sending: &Sending, more: bool) -> bool
+        requires within { station < self.now.config.stations }
+        requires more { more ≡ more_data_of self.now station class sending.now }
+        ensures { result ≡ ends_period_of self.now station class sending.now }
+    {
+        let sleeper = self.sleepers.at(station);
+        sleeper.is_served(class)
+            && !sending.is_request()
+            && (sleeper.is_used_up(sending.frames()) || !more)
+    }
+
+    // Returns whether a number waits or a frame is queued on some TID of a station, of the classes of a poll.
     pub(crate) fn has_more(&self, station: u16) -> bool
         requires within { station < self.now.config.stations }
         ensures { result ≡ has_more_of self.now station }
     {
-        self.has_some(station, 0)
-            || self.has_some(station, 1)
-            || self.has_some(station, 2)
-            || self.has_some(station, 3)
-            || self.has_some(station, 4)
-            || self.has_some(station, 5)
-            || self.has_some(station, 6)
-            || self.has_some(station, 7)
+        self.has_more_in(station, self.sleepers.at(station).polled())
     }
 
-    // Returns whether a number of a TID waits or a frame is queued.
-    fn has_some(&self, station: u16, tid: u8) -> bool
+    // Returns this for the classes that the More Data bit of an exchange of a class is about.
+    fn has_more_told(&self, station: u16, class: Class) -> bool
+        requires within { station < self.now.config.stations }
+        ensures { result ≡ has_more_in_of self.now station
+            (is_told_in (sleeper self.now.sleepers station) class) }
+    {
+        self.has_more_in(station, self.sleepers.at(station).told(class))
+    }
+
+    // Returns this for these classes.
+    fn has_more_in(&self, station: u16, classes: u8) -> bool
+        requires within { station < self.now.config.stations }
+        ensures { result ≡ has_more_in_of self.now station (has_class classes) }
+    {
+        self.has_some(station, 0, classes)
+            || self.has_some(station, 1, classes)
+            || self.has_some(station, 2, classes)
+            || self.has_some(station, 3, classes)
+            || self.has_some(station, 4, classes)
+            || self.has_some(station, 5, classes)
+            || self.has_some(station, 6, classes)
+            || self.has_some(station, 7, classes)
+    }
+
+    // Returns whether a TID is of one of these classes, and a number of it waits or a frame is queued.
+    fn has_some(&self, station: u16, tid: u8, classes: u8) -> bool
         requires within { station < self.now.config.stations }
         requires tid { tid < 8 }
-        ensures { result ≡ (some_wait (window_of self.now.windows station tid)
-            || nat_lt 0 (frames_of_tid self.now.flows (tid_number station tid))) }
+        ensures { result ≡ (has_class classes (class_of tid) && has_some_of self.now station tid) }
     {
-        self.windows.at(station, tid).has_waiting() || self.flows.queued(station, tid) > 0
+        Class::of_tid(tid).is_in(classes)
+            && (self.windows.at(station, tid).has_waiting() || self.flows.queued(station, tid) > 0)
     }
 
     // Prepares a request if one is due, else an aggregate within these bounds, whose numbers fly from then

@@ -201,7 +201,7 @@ impl Transmit {
     }
 
     /// Returns the bit of a station in the TIM (IEEE 802.11-2012, 8.4.2.7): whether it is live and sleeps,
-    /// and a number waits or a frame is queued for it on some TID.
+    /// and a number waits or a frame is queued for it on some TID of the classes of a poll (10.2.1.5).
     pub fn has_traffic(&self, station: u16) -> bool
         requires within { station < self.now.config.stations }
         ensures { result ≡ (is_some (member self.now.members station)

@@ -3,10 +3,9 @@
 ghost use Rattle.std.specs.Prelude.{◌≡◌, ◌<◌, ◌&&◌, not, ℕ};
 ghost use Rattle.wf_frame.specs.Frames.{FrameValue};
 ghost use Rattle.wf_def_world.specs.World.{World};
-ghost use Rattle.wf_def_world.specs.CanSend.{is_ready, has_credit};
+ghost use Rattle.wf_def_world.specs.CanSend.{is_ready};
 ghost use Rattle.wf_sched.specs.ClassRotas.{deficit};
 ghost use Rattle.wf_send_parts.specs.Exchanges.{airtime_to};
-ghost use Rattle.wf_send_parts.specs.Sleepers.{sleeper};
 ghost use Rattle.wf_send_parts.specs.Window.{can_take};
 ghost use Rattle.wf_send_parts.specs.Windows.{window_of};
 ghost use Rattle.wf_send_half_model.specs.Half.{can_send_of, is_held_back_of, is_below_aql_of, may_receive_of, has_live_credit_of, is_ready_of, pending_air_of, is_debtor_of};
@@ -18,9 +17,8 @@ use crate::half::Half;
 use wf_frame::Class;
 
 impl Half {
-    /// Returns whether a station is ready in a class: it is live, one of the class's two TIDs can send, it is
-    /// not stopped, it is awake or has a credit for the class, and its airtime in flight is below the setting
-    /// `aql`. The station's number is below the setting `stations`.
+    /// Returns whether a station is ready in a class: it is live, one of the class's two TIDs can send, and
+    /// it may receive. The station's number is below the setting `stations`.
     pub(crate) fn is_ready(&self, station: u16, class: Class) -> bool
         requires within { station < self.now.config.stations }
         ensures value { result ≡ is_ready_of self.now class station }
@@ -33,14 +31,13 @@ impl Half {
     }
 
     // Returns whether a station may receive in a class: it is not stopped, it is awake or has a credit for
-    // the class, and its airtime in flight is below the setting `aql`.
+    // the class or a service period, and its airtime in flight is below the setting `aql`.
     fn may_receive(&self, station: u16, class: Class) -> bool
         requires within { station < self.now.config.stations }
         ensures value { result ≡ may_receive_of self.now station class }
     {
-        !self.sleepers.stopped(station)
-            && (!self.sleepers.asleep(station) || self.has_credit(station, class))
-            && self.is_below_aql(station, class)
+        let sleeper = self.sleepers.at(station);
+        !sleeper.stopped && sleeper.is_reachable(class) && self.is_below_aql(station, class)
     }
 
     // Returns whether the airtime in flight to a station in a class is below the setting `aql`, which is no
@@ -50,17 +47,6 @@ impl Half {
         ensures value { result ≡ is_below_aql_of self.now station class }
     {
         self.config.aql == 0 || self.opened.airtime_to(station, class) < self.config.aql
-    }
-
-    // Returns whether a station has a credit for a class.
-    fn has_credit(&self, station: u16, class: Class) -> bool
-        requires within { station < self.now.config.stations }
-        ensures value { result ≡ has_credit (sleeper self.now.sleepers station).credit class }
-    {
-        match self.sleepers.credit(station) {
-            Some(granted) => granted == class,
-            None => false,
-        }
     }
 
     // Returns whether a station has a credit that blocks a poll: with the setting `credits`, only one in

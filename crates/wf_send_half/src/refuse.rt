@@ -1,17 +1,20 @@
 //! The checks of the calls. A call is refused for the first reason that holds, in the order of the machine.
 
-ghost use Rattle.std.specs.Prelude.{◌≡◌, ◌<◌, ◌≤◌, ℕ, ◌-ℤ◌, pos, int_lt, true, false, [], ◌∷◌, None, Some, is_some, not, find, IfOk, IfErr, if◌then◌else◌, nat_le, nat_lt};
+ghost use Rattle.std.specs.Prelude.{◌≡◌, ◌<◌, ◌≤◌, ℕ, ◌-ℤ◌, pos, int_lt, true, false, ◌&&◌, [], ◌∷◌, None, Some, is_some, not, find, IfOk, IfErr, if◌then◌else◌, nat_le, nat_lt};
 ghost use Rattle.wf_frame.specs.Frames.{FrameValue};
-ghost use Rattle.wf_frame.specs.declared.notes.Ask.TheVariants.{Join, Plain, Offload, Weight, Rate as Rates, Tick, Sleep, Wake, Poll, Rx, Ampdu, Stop, Start};
+ghost use Rattle.wf_frame.specs.declared.notes.Ask.TheVariants.{Join, Plain, Offload, Weight, Rate as Rates, Tick, Sleep, Wake, Poll, Rx, Ampdu, Stop, Start, Service};
+ghost use Rattle.wf_frame.specs.declared.notes.ServiceAsk.TheVariants.{Set, Trigger, End};
+ghost use Rattle.wf_frame.specs.Classes.{has_class};
 ghost use Rattle.wf_frame.specs.declared.notes.Note.TheVariants.{Asked};
 ghost use Rattle.wf_frame.specs.declared.notes.Refusal.TheVariants.{BadRate, BadStation, BadTid, BadWindow, NoStation, Debt};
 ghost use Rattle.wf_frame.specs.declared.classes.Class.TheVariants.{Bk, Be, Vi, Vo};
 ghost use Rattle.wf_def_lists.specs.Bounds.{greatest_tid, greatest_window, deepest_deficit};
 ghost use Rattle.wf_def_air.specs.Airtime.{is_rate};
 ghost use Rattle.wf_def_world.specs.Rates.{rate_asked, is_rate_with};
-ghost use Rattle.wf_def_world.specs.World.{World, share};
+ghost use Rattle.wf_def_world.specs.Service.{is_delivered};
+ghost use Rattle.wf_def_world.specs.World.{World, share, station as world_station};
 ghost use Rattle.wf_def_world.specs.Refusals.{first_refusal, refusal, is_within};
-ghost use Rattle.wf_def_world.specs.Step.{class_to_send};
+ghost use Rattle.wf_def_world.specs.Step.{first_to_send, class_to_send};
 ghost use Rattle.wf_send_parts.specs.Sleepers.{sleeper};
 ghost use Rattle.wf_send_half_model.specs.Standing.{StandsFor};
 ghost use Rattle.wf_send_parts.specs.Members.{member};
@@ -21,8 +24,9 @@ ghost use Rattle.std.specs.Result.{result_err};
 use crate::half::Half;
 use wf_air::time::Rate;
 use wf_frame::{
-    AskedRate, Class, GREATEST_AIR, GREATEST_AMPDU, GREATEST_EXPONENT, GREATEST_START,
-    GREATEST_TICK, GREATEST_TID, GREATEST_WEIGHT, GREATEST_WINDOW, LEAST_AMPDU, Refusal,
+    AskedRate, Class, GREATEST_AIR, GREATEST_AMPDU, GREATEST_CLASSES, GREATEST_EXPONENT,
+    GREATEST_START, GREATEST_TICK, GREATEST_TID, GREATEST_WEIGHT, GREATEST_WINDOW, LEAST_AMPDU,
+    Refusal,
 };
 
 // Returns whether a number is from the least to the greatest.
@@ -229,7 +233,7 @@ impl Half {
         refuse_where(!self.sleepers.asleep(station), Refusal::Awake)
     }
 
-    // Checks a poll, and returns the most urgent class in which the station can send.
+    // Checks a poll, and returns the most urgent of its classes in which the station can send.
     pub(crate) fn check_poll(&self, station: u16) -> Result<Class, Refusal>
         ensures refused { (w : World) (bodies : ℕ → FrameValue) → StandsFor self.now w bodies →
             result_err result ≡ refusal w (Asked (Poll station)) }
@@ -240,10 +244,55 @@ impl Half {
     {
         self.check_wake(station)?;
         refuse_where(self.has_live_credit(station), Refusal::Polled)?;
-        match self.class_to_send(station) {
+        match self.class_to_send(station, self.sleepers.at(station).polled()) {
             Some(class) => Ok(class),
             None => Err(Refusal::Nothing),
         }
+    }
+
+    // Checks a change of a station's delivery-enabled classes.
+    pub(crate) fn check_delivery(&self, station: u16, classes: u8, most: u8) -> Result<(), Refusal>
+        ensures refused { (w : World) (bodies : ℕ → FrameValue) → StandsFor self.now w bodies →
+            result_err result ≡ refusal w (Asked (Service (Set station classes most))) }
+        ensures within { IfOk result (λ _. station < self.now.config.stations) }
+    {
+        self.in_range(station)?;
+        refuse_where(GREATEST_CLASSES < classes, Refusal::BadClasses)?;
+        self.live(station)?;
+        refuse_where(self.sleepers.asleep(station), Refusal::Asleep)
+    }
+
+    // Checks a trigger, and returns the most urgent delivery-enabled class in which the station can send.
+    pub(crate) fn check_trigger(&self, station: u16) -> Result<Class, Refusal>
+        ensures refused { (w : World) (bodies : ℕ → FrameValue) → StandsFor self.now w bodies →
+            result_err result ≡ refusal w (Asked (Service (Trigger station))) }
+        ensures class { IfOk result (λ class. (w : World) (bodies : ℕ → FrameValue) →
+            StandsFor self.now w bodies →
+            class ≡ first_to_send w station (is_delivered (world_station w station))) }
+        ensures within { IfOk result (λ _. station < self.now.config.stations) }
+        ensures asleep { IfOk result (λ _. (sleeper self.now.sleepers station).asleep ≡ true) }
+    {
+        self.check_wake(station)?;
+        let sleeper = self.sleepers.at(station);
+        refuse_where(sleeper.service.is_some(), Refusal::Polled)?;
+        match self.class_to_send(station, sleeper.delivery) {
+            Some(class) => Ok(class),
+            None => Err(Refusal::Nothing),
+        }
+    }
+
+    // Checks that a service period of a station may end.
+    pub(crate) fn check_end(&self, station: u16) -> Result<(), Refusal>
+        ensures refused { (w : World) (bodies : ℕ → FrameValue) → StandsFor self.now w bodies →
+            result_err result ≡ refusal w (Asked (Service (End station))) }
+        ensures within { IfOk result (λ _. station < self.now.config.stations) }
+    {
+        self.in_range(station)?;
+        self.live(station)?;
+        refuse_where(
+            self.sleepers.at(station).service.is_none(),
+            Refusal::Nothing,
+        )
     }
 
     // Checks a change of rate, and returns the rate.
@@ -317,18 +366,19 @@ impl Half {
         self.live(station)
     }
 
-    // Returns the most urgent class in which a station can send.
-    fn class_to_send(&self, station: u16) -> Option<Class>
+    // Returns the most urgent of these classes in which a station can send.
+    fn class_to_send(&self, station: u16, classes: u8) -> Option<Class>
         requires { station < self.now.config.stations }
-        ensures { result ≡ find (can_send_in_of self.now station) (Vo ∷ Vi ∷ Be ∷ Bk ∷ []) }
+        ensures { result ≡ find (λ c. has_class classes c && can_send_in_of self.now station c)
+            (Vo ∷ Vi ∷ Be ∷ Bk ∷ []) }
     {
-        if self.can_send_in(station, Class::Vo) {
+        if Class::Vo.is_in(classes) && self.can_send_in(station, Class::Vo) {
             Some(Class::Vo)
-        } else if self.can_send_in(station, Class::Vi) {
+        } else if Class::Vi.is_in(classes) && self.can_send_in(station, Class::Vi) {
             Some(Class::Vi)
-        } else if self.can_send_in(station, Class::Be) {
+        } else if Class::Be.is_in(classes) && self.can_send_in(station, Class::Be) {
             Some(Class::Be)
-        } else if self.can_send_in(station, Class::Bk) {
+        } else if Class::Bk.is_in(classes) && self.can_send_in(station, Class::Bk) {
             Some(Class::Bk)
         } else {
             None

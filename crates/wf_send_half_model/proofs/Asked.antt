@@ -1,6 +1,6 @@
 -- Proves that a pull reads the same values from a half as from its world, and that the half refuses a pull
 -- exactly if the machine does.
-use Rattle.std.proofs.Common.{◌||◌, ◌≡◌, refl, ap, ap₂, sym, ◌∙◌, subst, arith, ℕ, ◌+◌, ◌-◌, ◌<◌, Bool, true, false, if◌then◌else◌, [], ◌∷◌, length, Option, Some, None, is_some, is_none, option_map, unwrap_or}
+use Rattle.std.proofs.Common.{◌≡◌, refl, ap, ap₂, sym, ◌∙◌, subst, arith, ℕ, ◌+◌, ◌-◌, ◌<◌, Bool, true, false, if◌then◌else◌, [], ◌∷◌, length, Option, Some, None, is_some, is_none, option_map, unwrap_or}
 use Rattle.std.specs.Prelude.{nat_le, IfSome, count_by}
 use Rattle.wf_frame.specs.declared.classes.Class.{Class}
 use Rattle.wf_frame.specs.Classes.{lower_tid, upper_tid, same_class, tid_number}
@@ -10,14 +10,14 @@ use Rattle.wf_frame.specs.declared.notes.Limits.{Limits}
 use Rattle.wf_frame.specs.declared.notes.Refusal.{Refusal}
 use Rattle.wf_frame.specs.declared.notes.Refusal.TheVariants.{Full, Ahead, Idle}
 use Rattle.wf_frame.specs.Frames.{FrameValue}
-use Rattle.wf_def_air.specs.Airtime.{Rate, is_single}
+use Rattle.wf_def_air.specs.Airtime.{Rate}
 use Rattle.wf_def_air.specs.Fit.{most_octets}
 use Rattle.wf_def_codel.specs.Codel.{Params}
 use Rattle.wf_def_codel.specs.Parameters.{params_at}
 use Rattle.wf_def_lists.specs.Table.{at}
 use Rattle.wf_def_world.specs.World.{World, Bounds, Station, no_station, is_live, station, share, rotation, codel_params, owed_by_all}
 use Rattle.wf_def_world.specs.CanSend.{can_send, can_send_in, is_ready}
-use Rattle.wf_def_world.specs.Exchanges.{takes_one, most_frames, station_need, picked_station, sending_tid}
+use Rattle.wf_def_world.specs.Exchanges.{frames_allowed, most_frames, station_need, picked_station, sending_tid}
 use Rattle.wf_def_world.specs.Refusals.{open_of_class, is_at_aql_total, first_refusal, refusal}
 use Rattle.wf_def_rotation.specs.Rotation.{has_key}
 use Rattle.wf_law_rules.proofs.Lemmas.Counts.{listed-none}
@@ -34,10 +34,11 @@ use Rattle.wf_queue_flows_refines.proofs.Heads.{drops_counted}
 use Rattle.wf_send_parts.specs.declared.stations.members.Member.{Member}
 use Rattle.wf_send_parts.specs.Exchanges.{airtime_of}
 use Rattle.wf_send_parts.specs.Members.{member}
+use Rattle.wf_send_parts.specs.declared.stations.sleepers.Sleeper.{Sleeper}
 use Rattle.wf_send_parts.specs.Sleepers.{sleeper}
 use Rattle.wf_send_half_model.specs.Half.{TransmitValue, can_send_of, is_ahead_of}
 use Rattle.wf_send_half_model.specs.Standing.{IsMember, AreBoth, IsReached, Parts, StandsFor}
-use Rattle.wf_send_half_model.specs.Pulling.{sending_tid_of, is_wide_of}
+use Rattle.wf_send_half_model.specs.Pulling.{sending_tid_of, is_wide_of, frames_allowed_of}
 use Rattle.wf_send_half_model.specs.Filling.{after_pick_within, room_for}
 use Rattle.wf_send_half_model.proofs.Pulls.{pick_within_parts, sending_same, sending_low, wide_same}
 use Rattle.wf_send_half_model.proofs.Readers.{can_send_same, class_count_same, airtime_same, ahead_same}
@@ -86,7 +87,7 @@ pub room_read : (v : TransmitValue) (w : World) (bodies : ℕ → FrameValue) (s
     w.bounds ≡ b →
     empty_size m.rate (record {
       octets = most_octets m.rate m.exponent m.ampdu;
-      frames = if (sleeper v.sleepers s).asleep || is_single m.rate then 1 else b.frames;
+      frames = frames_allowed_of (sleeper v.sleepers s) m.rate b;
       time = b.air;
     }) v.config.answers (is_wide_of v s t) ≡ room_for w s t
 room_read v w bodies s h live m is t low b bounds =
@@ -95,14 +96,11 @@ room_read v w bodies s h live m is t low b bounds =
     (h.others.stations.live s) live is in
     let wide : Bool = is_wide_of v s t in
     ap₂ (λ (r : Rate) (n : ℕ). sized r n m.ampdu
-    (if (sleeper v.sleepers s).asleep || is_single r then 1 else b.frames) b.air v.config.answers wide) k.rate
-    k.exponent
-    ∙ ap₂ (λ (o : Option ℕ) (p : Bool). sized x.rate x.exponent o
-    (if p || is_single x.rate then 1 else b.frames) b.air
-    v.config.answers wide) k.ampdu (h.others.stations.asleep s live)
-    ∙ ap₂ (λ (c : Bounds) (n : ℕ). sized x.rate x.exponent x.ampdu
-    (if takes_one x then 1 else c.frames) c.air n
-    wide) (sym bounds) (ap (λ c. c.answers) h.others.config)
+    (frames_allowed_of (sleeper v.sleepers s) r b) b.air v.config.answers wide) k.rate k.exponent
+    ∙ ap₂ (λ (o : Option ℕ) (y : Sleeper). sized x.rate x.exponent o (frames_allowed_of y x.rate b) b.air
+    v.config.answers wide) k.ampdu (h.others.stations.rests s live)
+    ∙ ap₂ (λ (c : Bounds) (n : ℕ). sized x.rate x.exponent x.ampdu (frames_allowed x c) c.air n wide)
+    (sym bounds) (ap (λ c. c.answers) h.others.config)
     ∙ ap (sized x.rate x.exponent x.ampdu (most_frames w s) w.bounds.air w.config.answers)
     (wide_same v w bodies s t h live low)
 

@@ -12,7 +12,7 @@ use Rattle.wf_def_lists.specs.Table.{at, change}
 use Rattle.wf_def_agreement.specs.Session.{Session, End, after_end}
 use Rattle.wf_def_agreement.specs.Receiver.{Receiver}
 use Rattle.wf_def_world.specs.World.{World, Station, Tid, Share, Exchange, Mpdu, Content, Frames, Request, no_tid, no_station, holds_back, station, tid_of, is_live, is_agreed, owed, exchange, with_station, on_station, on_tid, on_session, on_receiver, on_share, with_fate, with_frame_finished, without_exchange}
-use Rattle.wf_def_world.specs.CanSend.{is_request, has_credit, may_receive, is_ready}
+use Rattle.wf_def_world.specs.CanSend.{is_request, is_reachable, may_receive, is_ready}
 use Rattle.wf_def_world.specs.Exchanges.{after_charge, with_failed_finished, with_settled, with_all_settled, caught_up, caught_up_if_plain, after_done}
 use Rattle.wf_def_world.specs.Step.{outcome_of, outcome_where_open, station_of, done_outcome, step}
 use Rattle.wf_law_rules.proofs.Lemmas.Tables.{at_put_same, at_put_other}
@@ -79,8 +79,7 @@ beyond_on_session w s t f = record {
       x { tids = change no_tid x.tids t (λ y. record y { session = f y.session }) })
       (λ x. at_put_other no_tid x.tids t j _ (λ e. other (sym e)));
   live = live_on w s _ s;
-  receives = receives_on_station w s _
-      (record { asleep = λ x. refl; credit = λ x. refl; stopped = λ x. refl }) s;
+  receives = receives_on_station w s _ (λ x. refl) s;
   opened = on_station_opened w s _;
 }
 
@@ -91,8 +90,7 @@ beyond_on_receiver w s t f = record {
       x { tids = change no_tid x.tids t (λ y. record y { receiver = f y.receiver }) })
       (λ x. at_put_other no_tid x.tids t j _ (λ e. other (sym e)));
   live = live_on w s _ s;
-  receives = receives_on_station w s _
-      (record { asleep = λ x. refl; credit = λ x. refl; stopped = λ x. refl }) s;
+  receives = receives_on_station w s _ (λ x. refl) s;
   opened = on_station_opened w s _;
 }
 
@@ -107,8 +105,7 @@ unfolding on_share
 beyond_on_share w s t c f = record {
   tids = λ j _. tid_on_station w s j _ (λ x. refl);
   live = live_on w s _ s;
-  receives = receives_on_station w s _
-      (record { asleep = λ x. refl; credit = λ x. refl; stopped = λ x. refl }) s;
+  receives = receives_on_station w s _ (λ x. refl) s;
   opened = on_station_opened w s _;
 }
 
@@ -188,7 +185,7 @@ without_elsewhere : (w : World) (e : ℕ) (x : Exchange) → IsKept (books w) �
 unfolding without_exchange
 without_elsewhere w e x kept own found s c other =
     ap (λ (n : ℕ). not (station w s).stopped
-    && ((not (station w s).asleep || has_credit (station w s).credit c)
+    && (is_reachable (station w s) c
     && ((w.config.aql == 0) || nat_lt n w.config.aql))) (owed_elsewhere w e x kept own found s c other)
 
 module _ (w : World) (e : ℕ) (x : Exchange) (heard : Bool) (air : Option ℕ) (kept : IsKept (books w))

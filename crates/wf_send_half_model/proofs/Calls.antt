@@ -5,26 +5,30 @@ use Rattle.std.proofs.lemmas.List.Elements.{All-rest}
 use Rattle.wf_frame.specs.declared.classes.Class.{Class}
 use Rattle.wf_frame.specs.Frames.{FrameValue}
 use Rattle.wf_frame.specs.declared.notes.AskedRate.{AskedRate}
+use Rattle.wf_frame.specs.declared.notes.ServiceAsk.{ServiceAsk}
+use Rattle.wf_frame.specs.declared.notes.ServiceAsk.TheVariants as service
 use Rattle.wf_def_air.specs.Airtime.{Rate}
 use Rattle.wf_def_world.specs.Rates.{rate_asked}
-use Rattle.wf_def_world.specs.World.{World, Share, on_station, on_share}
-use Rattle.wf_def_world.specs.Step.{class_to_send, tick_outcome, rate_outcome, sleep_outcome, wake_outcome, poll_outcome, rx_outcome, reap_outcome, ampdu_outcome, stop_outcome, start_outcome}
+use Rattle.wf_def_world.specs.World.{World, Station, Share, on_station, on_share}
+use Rattle.wf_def_world.specs.Service.{station_served, after_service}
+use Rattle.wf_def_world.specs.Step.{class_to_send, tick_outcome, rate_outcome, sleep_outcome, wake_outcome, poll_outcome, rx_outcome, reap_outcome, ampdu_outcome, stop_outcome, start_outcome, service_outcome}
 use Rattle.wf_law_runs.proofs.Deficits.Books.{updc, updc_idle}
 use Rattle.wf_sched_refines.specs.Standing.{LeavesRotas, with_deficit_charged as with_turns_charged, share_in}
-use Rattle.wf_sched_refines.proofs.Unchanged.{rate_leaves, tick_leaves, slept_leaves, woken_leaves, credited_leaves, reaped_leaves, stated_leaves, stopped_leaves, started_leaves}
+use Rattle.wf_sched_refines.proofs.Unchanged.{rate_leaves, tick_leaves, slept_leaves, woken_leaves, credited_leaves, reaped_leaves, stated_leaves, stopped_leaves, started_leaves, served_leaves}
 use Rattle.wf_sched_refines.proofs.Charges.{receive_stands}
 use Rattle.wf_queue_flows_refines.specs.Standing.{with_finished, ids}
 use Rattle.wf_queue_flows_refines.specs.Frames.{IsBodySettled}
 use Rattle.wf_queue_flows_refines.proofs.Ends.{stands_reaped}
 use Rattle.wf_queue_flows_refines.proofs.Elsewhere.{rest_reaped}
 use Rattle.wf_send_parts.specs.Members.{on_member, with_rate, with_ampdu, with_receipt}
-use Rattle.wf_send_parts.specs.Sleepers.{sleeper, with_sleeper, woken}
+use Rattle.wf_send_parts.specs.Sleepers.{sleeper, with_sleeper, woken, sleeper_after}
 use Rattle.wf_send_half_model.specs.Half.{TransmitValue}
-use Rattle.wf_send_half_model.specs.Standing.{Parts}
+use Rattle.wf_send_half_model.specs.Standing.{sleeper_of, Parts}
+use Rattle.wf_send_half_model.specs.Changes.{after_service_call}
 use Rattle.wf_send_half_model.specs.Views.{view_of, Roster, roster, ledger}
 use Rattle.wf_send_half_model.proofs.Views.{agreements_rest, roster_rest, reshared, view_reshared}
 use Rattle.wf_send_half_model.proofs.Stands.{WindowsStand, ModesStand, StationsStand, LedgerStands, Pieces, to_pieces, of_pieces}
-use Rattle.wf_send_half_model.proofs.Stations.{member_changed, sleeper_changed, resting, rated, stated, receipted, station_parts}
+use Rattle.wf_send_half_model.proofs.Stations.{member_changed, rated, stated, receipted, station_parts, sleeper_parts}
 
 -- ---- the clock
 
@@ -62,7 +66,7 @@ module _ (v : TransmitValue) (w : World) (bodies : ℕ → FrameValue) (s : ℕ)
       (on_member v.members s (with_rate given)) v.sleepers v.sched
       (λ x. refl) (λ x. refl) (rate_leaves w s rate v.sched h.others.turns)
       (λ k. member_changed v.members v.sleepers w.config.stations (roster w).stations s (with_rate given)
-      (λ x. record x { rate = given }) k low (rated given) (λ x. refl) (λ x. refl) (λ x. refl)) h
+      (λ x. record x { rate = given }) k low (rated given) (λ x. refl)) h
 
   pub sleep_parts : Parts (record v {
     sleepers =
@@ -71,26 +75,15 @@ module _ (v : TransmitValue) (w : World) (bodies : ℕ → FrameValue) (s : ℕ)
       (sleep_outcome w s).world bodies
   unfolding sleep_outcome
   sleep_parts =
-      station_parts v w bodies s (λ x. record x { asleep = true }) (λ x. record x { asleep = true }) v.members
-      (with_sleeper v.sleepers s (record (sleeper v.sleepers s) { asleep = true })) v.sched
-      (λ x. refl) (λ x. refl) (slept_leaves w s v.sched h.others.turns)
-      (λ k. sleeper_changed v.members v.sleepers w.config.stations (roster w).stations s
-      (record (sleeper v.sleepers s) { asleep = true }) (λ x. record x { asleep = true }) k low
-      (λ m x. resting true x.credit x.stopped m x)
-      (λ x y. record { asleep = refl; credit = y.credit; stopped = y.stopped })) h
+      sleeper_parts v w bodies s (λ x. record x { asleep = true }) (λ y. record y { asleep = true }) low
+      (λ x. refl) (λ x. refl) (slept_leaves w s) h
 
   pub wake_parts : Parts (record v { sleepers = with_sleeper v.sleepers s (woken (sleeper v.sleepers s)) })
       (wake_outcome w s).world bodies
   unfolding wake_outcome
   wake_parts =
-      station_parts v w bodies s (λ x. record x { asleep = false; credit = None })
-      (λ x. record x { asleep = false; credit = None }) v.members
-      (with_sleeper v.sleepers s (woken (sleeper v.sleepers s))) v.sched
-      (λ x. refl) (λ x. refl) (woken_leaves w s v.sched h.others.turns)
-      (λ k. sleeper_changed v.members v.sleepers w.config.stations (roster w).stations s
-      (woken (sleeper v.sleepers s)) (λ x. record x { asleep = false; credit = None }) k low
-      (λ m x. resting false None x.stopped m x)
-      (λ x y. record { asleep = refl; credit = refl; stopped = y.stopped })) h
+      sleeper_parts v w bodies s (λ x. record x { asleep = false; credit = None; service = None }) woken low
+      (λ x. refl) (λ x. refl) (woken_leaves w s) h
 
   pub poll_parts : Parts (record v {
     sleepers =
@@ -100,14 +93,8 @@ module _ (v : TransmitValue) (w : World) (bodies : ℕ → FrameValue) (s : ℕ)
   unfolding poll_outcome
   poll_parts =
       let credit : Option Class = Some (class_to_send w s) in
-      station_parts v w bodies s (λ x. record x { credit = credit })
-      (λ x. record x { credit = credit }) v.members
-      (with_sleeper v.sleepers s (record (sleeper v.sleepers s) { credit = credit })) v.sched
-      (λ x. refl) (λ x. refl) (credited_leaves w s v.sched h.others.turns)
-      (λ k. sleeper_changed v.members v.sleepers w.config.stations (roster w).stations s
-      (record (sleeper v.sleepers s) { credit = credit }) (λ x. record x { credit = credit }) k low
-      (λ m x. resting x.asleep credit x.stopped m x)
-      (λ x y. record { asleep = y.asleep; credit = refl; stopped = y.stopped })) h
+      sleeper_parts v w bodies s (λ x. record x { credit = credit }) (λ y. record y { credit = credit }) low
+      (λ x. refl) (λ x. refl) (credited_leaves w s) h
 
   pub ampdu_parts : (octets : ℕ) →
       Parts (record v { members = on_member v.members s (with_ampdu octets) })
@@ -118,7 +105,7 @@ module _ (v : TransmitValue) (w : World) (bodies : ℕ → FrameValue) (s : ℕ)
       (on_member v.members s (with_ampdu octets)) v.sleepers v.sched
       (λ x. refl) (λ x. refl) (stated_leaves w s octets v.sched h.others.turns)
       (λ k. member_changed v.members v.sleepers w.config.stations (roster w).stations s (with_ampdu octets)
-      (λ x. record x { ampdu = Some octets }) k low (stated octets) (λ x. refl) (λ x. refl) (λ x. refl)) h
+      (λ x. record x { ampdu = Some octets }) k low (stated octets) (λ x. refl)) h
 
   stopped_parts : (stopped : Bool) → LeavesRotas w (on_station w s (λ x. record x { stopped = stopped })) →
       Parts (record v {
@@ -126,14 +113,8 @@ module _ (v : TransmitValue) (w : World) (bodies : ℕ → FrameValue) (s : ℕ)
       })
       (on_station w s (λ x. record x { stopped = stopped })) bodies
   stopped_parts stopped leaves =
-      station_parts v w bodies s (λ x. record x { stopped = stopped })
-      (λ x. record x { stopped = stopped }) v.members
-      (with_sleeper v.sleepers s (record (sleeper v.sleepers s) { stopped = stopped })) v.sched
-      (λ x. refl) (λ x. refl) (leaves v.sched h.others.turns)
-      (λ k. sleeper_changed v.members v.sleepers w.config.stations (roster w).stations s
-      (record (sleeper v.sleepers s) { stopped = stopped }) (λ x. record x { stopped = stopped }) k low
-      (λ m x. resting x.asleep x.credit stopped m x)
-      (λ x y. record { asleep = y.asleep; credit = y.credit; stopped = refl })) h
+      sleeper_parts v w bodies s (λ x. record x { stopped = stopped }) (λ y. record y { stopped = stopped })
+      low (λ x. refl) (λ x. refl) leaves h
 
   pub stop_parts : Parts (record v {
     sleepers =
@@ -179,7 +160,22 @@ module _ (v : TransmitValue) (w : World) (bodies : ℕ → FrameValue) (s : ℕ)
       (receive_stands v.sched w s c air h.others.turns)
       (λ k. member_changed v.members v.sleepers w.config.stations (roster w).stations s (with_receipt c air)
       (λ x. record x { received = updc x.received c (x.received c + air) }) k low (receipted c air)
-      (λ x. refl) (λ x. refl) (λ x. refl)) h
+      (λ x. refl)) h
+
+-- ---- a call about service periods
+
+served_view : (ask : ServiceAsk) (x : Station) →
+    view_of (after_service ask x) ≡ record (view_of x) { sleeper = sleeper_after ask (sleeper_of x) }
+served_view (service.Set s classes most) x = refl
+served_view (service.Trigger s) x = refl
+served_view (service.End s) x = refl
+
+pub service_parts : (v : TransmitValue) (w : World) (bodies : ℕ → FrameValue) (ask : ServiceAsk) →
+    station_served ask < w.config.stations → Parts v w bodies →
+    Parts (after_service_call v ask) (service_outcome w ask).world bodies
+service_parts v w bodies ask low h =
+    sleeper_parts v w bodies (station_served ask) (after_service ask) (sleeper_after ask) low (λ x. refl)
+    (served_view ask) (served_leaves w ask) h
 
 -- ---- the finished list
 

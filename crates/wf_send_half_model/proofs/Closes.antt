@@ -122,4 +122,4 @@ charge_parts v w bodies x air low h =
     (charge_stands v.sched w x air h.others.turns)
     (λ k. member_changed v.members v.sleepers w.config.stations (roster w).stations x.station
     (with_charge c n) (λ y. record y { charged = updc y.charged c (y.charged c + n) }) k low
-    (charged c n) (λ y. refl) (λ y. refl) (λ y. refl)) h
+    (charged c n) (λ y. refl)) h

@@ -7,7 +7,7 @@ use Rattle.std.proofs.lemmas.Bool.{leb-false, cases_eq, cases_lt, ne_eqb, or_lef
 use Rattle.std.proofs.lemmas.List.{length-map}
 use Rattle.std.proofs.lemmas.List.Folds.{list_all-append}
 use Rattle.wf_frame.specs.declared.classes.Class.{Class}
-use Rattle.wf_frame.specs.declared.notes.Ask.TheVariants.{Join, Leave, Rate, Tick, Pull, Arrive, Answer, Done, Sleep, Wake, Poll, Rx, Reap, Ampdu, Stop, Start, Unsent, GiveUp, Flush, Offload, Weight, Hold, Begin, Free, Cease, Group}
+use Rattle.wf_frame.specs.declared.notes.Ask.TheVariants.{Join, Leave, Rate, Tick, Pull, Arrive, Answer, Done, Sleep, Wake, Poll, Rx, Reap, Ampdu, Stop, Start, Unsent, GiveUp, Flush, Offload, Weight, Hold, Begin, Free, Cease, Group, Service}
 use Rattle.wf_frame.specs.declared.notes.Ask.TheVariants as call
 use Rattle.wf_frame.specs.declared.notes.Limits.{Limits}
 use Rattle.wf_frame.specs.declared.notes.Note.{Note}
@@ -18,6 +18,7 @@ use Rattle.wf_frame.specs.Classes.{all_classes}
 use Rattle.wf_def_agreement.specs.Receiver.{Receiver, Score, score}
 use Rattle.wf_def_lists.specs.Table.{at, has, with_member, upto}
 use Rattle.wf_law_rules.proofs.Lemmas.Numbers.{has_one}
+use Rattle.wf_def_world.specs.Service.{station_served}
 use Rattle.wf_def_world.specs.World.{World, Station, Exchange, Mpdu, Content, Frames, Request, session, receiver, rotation, is_live, exchange, on_station, on_tid, on_receiver, on_queue, on_session, with_station, with_exchange, without_exchange, with_fate, with_frame_finished, opening}
 use Rattle.wf_def_world.specs.CanSend.{is_ready}
 use Rattle.wf_def_world.specs.Exchanges.{station_need, picked_station, after_tid_turn, sending_tid, transmissions, mpdus_of, no_mpdu, number_at, numbers_unsent, numbers_given_up, after_arrival, Prepared, exchange_of, with_exchange_opened}
@@ -132,7 +133,7 @@ receiver_opened w s t f = refl
 fit_sent : (s t : ℕ) (c : Class) (w : World) (p : Prepared) → p.world.opened ≡ w.opened → AllFit w →
     AllFit (send_outcome s t c p).world
 unfolding send_outcome with_exchange_opened
-fit_sent s t c w p e all = fit_same (same_spent _ s).opened
+fit_sent s t c w p e all = fit_same (same_spent _ (exchange_of s t c p)).opened
     (each_append MarksFit p.world.opened (exchange_of s t c p) (subst (Each MarksFit) (sym e) all) (record {
       unsent = λ i is. absurd (cc is);
       given_up = λ i is. absurd (cc is);
@@ -291,6 +292,7 @@ fit_done (Asked Reap) w rows i all = fit_reaped w.finished w all
 fit_done (Asked (Group ask)) w rows i all = all
 fit_done (Asked (Ampdu s octets)) w rows i all = fit_same (station_opened w s _) all
 fit_done (Asked (Stop s)) w rows i all = fit_same (station_opened w s _) all
+fit_done (Asked (Service ask)) w rows i all = fit_same (station_opened w (station_served ask) _) all
 fit_done (Asked (Start s)) w rows i all = fit_same (station_opened w s _) all
 fit_done (Asked (Unsent e n)) w rows i all = fit_open w e (exchange w e) _ refl all
     (λ x known fit. fit_marked_unsent w x n all (fit_unsent x fit n

@@ -1,11 +1,11 @@
 -- Proves that fresh frames get numbers, one after the other, while they fit, as in the world's loop. One
 -- round takes a frame, gives it the next number, and either adds it to the aggregate or ends the aggregate.
-use Rattle.std.proofs.Common.{◌||◌, ◌≡◌, refl, ap, ap₂, sym, ◌∙◌, subst, arith, ℕ, zero, suc, ◌+◌, ◌-◌, ◌<◌, ◌≤◌, Bool, true, false, not, if◌then◌else◌, List, [], ◌∷◌, ◌++◌, map, length, length-append, Option, Some, None, option_map, unwrap_or}
+use Rattle.std.proofs.Common.{◌≡◌, refl, ap, ap₂, sym, ◌∙◌, subst, arith, ℕ, zero, suc, ◌+◌, ◌-◌, ◌<◌, ◌≤◌, Bool, true, false, not, if◌then◌else◌, List, [], ◌∷◌, ◌++◌, map, length, length-append, Option, Some, None, option_map, unwrap_or}
 use Rattle.std.specs.Prelude.{nat_lt, is_some, IfSome}
 use Rattle.std.proofs.lemmas.List.{map-append, length-map}
 use Rattle.wf_frame.specs.declared.classes.Class.{Class}
 use Rattle.wf_frame.specs.Frames.{FrameValue}
-use Rattle.wf_def_air.specs.Airtime.{Rate, is_single}
+use Rattle.wf_def_air.specs.Airtime.{Rate}
 use Rattle.wf_def_lists.specs.Bounds.{narrow_window}
 use Rattle.wf_def_codel.specs.Codel.{Item, Params}
 use Rattle.wf_def_air.specs.Fit.{most_octets, fits}
@@ -15,7 +15,7 @@ use Rattle.wf_def_lists.specs.Table.{at}
 use Rattle.wf_def_world.specs.World.{World, Bounds, Station, Mpdu, no_station, is_live, station, session, codel_params, with_station, on_station, on_tid, on_session}
 use Rattle.wf_def_world.specs.FlowQueues.{taken_for_tid}
 use Rattle.wf_def_world.specs.CanSend.{can_give}
-use Rattle.wf_def_world.specs.Exchanges.{Aggregate, after_tid_turn, takes_one, most_frames, lens_of, fits_in, fresh_mpdus, with_number, with_fresh}
+use Rattle.wf_def_world.specs.Exchanges.{Aggregate, after_tid_turn, frames_allowed, most_frames, lens_of, fits_in, fresh_mpdus, with_number, with_fresh}
 use Rattle.wf_law_runs.specs.Windows.{EachMpdu}
 use Rattle.wf_law_runs.proofs.Frames.Fates.{Fresh, safe_calm, safe_numbered}
 use Rattle.wf_law_runs.proofs.Frames.Fewer.{less_picked, less_after_turn}
@@ -37,7 +37,9 @@ use Rattle.wf_queue_flows_refines.proofs.Takes.{item_take}
 use Rattle.wf_send_parts.specs.Window.{WindowValue, WindowStandsFor as WindowStandsFor, on_air}
 use Rattle.wf_send_parts.specs.Windows.{WindowsHaveRoom, with_window}
 use Rattle.wf_send_half_model.specs.Half.{TransmitValue, can_give_of}
-use Rattle.wf_send_half_model.specs.Standing.{Parts, IsReached}
+use Rattle.wf_send_parts.specs.declared.stations.sleepers.Sleeper.{Sleeper}
+use Rattle.wf_send_half_model.specs.Standing.{sleeper_of, Parts, IsReached}
+use Rattle.wf_send_half_model.specs.Pulling.{frames_allowed_of}
 use Rattle.wf_send_half_model.specs.Filling.{after_pick_within, IsWaitingWith, AreWaiting, after_take, with_one_fresh, with_so_many_fresh, IsUnderway, room_for, HasRoomFor, IsFilling, IsFilled, after_giving, fresh_mpdu}
 use Rattle.wf_send_half_model.specs.Views.{StationView, view_of, Roster, roster}
 use Rattle.wf_send_half_model.proofs.Views.{roster_rest, roster_session}
@@ -179,11 +181,11 @@ record IsSameStation (x y : Station) : Type 0 where
   rate : y.rate ≡ x.rate
   exponent : y.exponent ≡ x.exponent
   ampdu : y.ampdu ≡ x.ampdu
-  asleep : y.asleep ≡ x.asleep
+  sleeper : sleeper_of y ≡ sleeper_of x
 
 same_station : (o p : Option Station) → option_map view_of p ≡ option_map view_of o →
     IsSameStation (unwrap_or o no_station) (unwrap_or p no_station)
-same_station None None e = record { rate = refl; exponent = refl; ampdu = refl; asleep = refl }
+same_station None None e = record { rate = refl; exponent = refl; ampdu = refl; sleeper = refl }
 same_station None (Some y) e = absurd (cc e)
 same_station (Some x) None e = absurd (cc e)
 same_station (Some x) (Some y) e =
@@ -193,7 +195,7 @@ same_station (Some x) (Some y) e =
       exponent =
           ap (λ (z : StationView). z.exponent) same;
       ampdu = ap (λ (z : StationView). z.ampdu) same;
-      asleep = ap (λ (z : StationView). z.asleep) same;
+      sleeper = ap (λ (z : StationView). z.sleeper) same;
     }
 
 -- an empty aggregate with these limits, in a session of this size
@@ -210,9 +212,8 @@ module _ (w u : World) (s t : ℕ) (same : roster u ≡ roster w) (bounds : u.bo
 
   pub most_same : most_frames u s ≡ most_frames w s
   most_same =
-      ap₂ (λ (b : Bool) (r : Rate). if b || is_single r then 1 else u.bounds.frames) station_is.asleep
-      station_is.rate
-      ∙ ap (λ (b : Bounds). if takes_one (station w s) then 1 else b.frames) bounds
+      ap₂ (λ (y : Sleeper) (r : Rate). frames_allowed_of y r u.bounds) station_is.sleeper station_is.rate
+      ∙ ap (frames_allowed (station w s)) bounds
 
   pub room_same : room_for u s t ≡ room_for w s t
   room_same =

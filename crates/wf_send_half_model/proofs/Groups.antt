@@ -23,6 +23,7 @@ use Rattle.wf_def_world.specs.Refusals.{refusal, first_refusal}
 use Rattle.wf_def_world.specs.Step.{Outcome, outcome_of, step, after_refusal, group_outcome}
 use Rattle.wf_queue_flows_refines.proofs.Leaves.{stands_same}
 use Rattle.wf_sched_refines.proofs.Unchanged.{grouped_leaves}
+use Rattle.wf_send_parts.specs.declared.stations.sleepers.Sleeper.{Sleeper}
 use Rattle.wf_send_parts.specs.Group.{GroupValue, world_frame, world_flight, group_state, group_refusal, group_value_after}
 use Rattle.wf_send_parts.specs.declared.group.GroupFlight.{GroupFlight}
 use Rattle.wf_send_parts.proofs.GroupFrames.{group_follows}
@@ -48,7 +49,7 @@ module _ (v : TransmitValue) (w : World) (bodies : ℕ → FrameValue) (h : Part
   asleep_same : (s : ℕ) → is_asleep_of v s ≡ (is_live w s && (station w s).asleep)
   asleep_same s = elim (cases_Bool (is_live w s)) [
     | inl on ↦ ap₂ (λ (a b : Bool). a && b) (live_same v w bodies s h)
-        (h.others.stations.asleep s on)
+        (ap (λ (y : Sleeper). y.asleep) (h.others.stations.rests s on))
     | inr off ↦ rw (live_same v w bodies s h, off) refl
   ]
 

@@ -128,7 +128,7 @@ asked_accepts (reply.Left dropped) ask = refl
 asked_accepts reply.Set ask = refl
 asked_accepts (reply.Now now) ask = refl
 asked_accepts (reply.Accepted id dropped) ask = refl
-asked_accepts (reply.Send exchange station tid air part more) ask = refl
+asked_accepts (reply.Send exchange station tid air part more eosp) ask = refl
 asked_accepts (reply.Released ids) ask = refl
 asked_accepts (reply.Ba start b0 b1 b2 b3 wide) ask = refl
 asked_accepts (reply.Done acked waiting failed) ask = refl
@@ -147,6 +147,7 @@ asked_accepts reply.Begun ask = refl
 asked_accepts reply.Freed ask = refl
 asked_accepts (reply.Ceased dropped ids) ask = refl
 asked_accepts (reply.Group answer) ask = refl
+asked_accepts (reply.Service answer) ask = refl
 asked_accepts (reply.Refused reason) ask = refl
 
 accepts_is : (w : World) (note : Note) → (if is_none (refusal w note) then brought note else 0)
@@ -245,7 +246,8 @@ module _ (gone : List ℕ) (w : World) (keeps : KeepsFinished gone w) (id : ℕ)
   by_reply (reply.Accepted new dropped) (Enqueue s t flow len) m more next =
       comes new m (next s t flow len new dropped refl refl) (omega (arith, more))
   by_reply (reply.Accepted new dropped) (Asked ask) m more next = stays m (omega (arith, more))
-  by_reply (reply.Send exchange station tid air part again) note m more next = stays m (omega (arith, more))
+  by_reply (reply.Send exchange station tid air part again eosp) note m more next =
+      stays m (omega (arith, more))
   by_reply (reply.Released ids) note m more next = stays m (omega (arith, more))
   by_reply (reply.Ba start b0 b1 b2 b3 wide) note m more next = stays m (omega (arith, more))
   by_reply (reply.Done acked waiting failed) note m more next = stays m (omega (arith, more))
@@ -264,6 +266,7 @@ module _ (gone : List ℕ) (w : World) (keeps : KeepsFinished gone w) (id : ℕ)
   by_reply reply.Freed note m more next = stays m (omega (arith, more))
   by_reply (reply.Ceased dropped ids) note m more next = stays m (omega (arith, more))
   by_reply (reply.Group answer) note m more next = stays m (omega (arith, more))
+  by_reply (reply.Service answer) note m more next = stays m (omega (arith, more))
   by_reply (reply.Refused reason) note m more next = stays m (omega (arith, more))
 
 module _ (c : Config) (h : List Entry) (note : Note) where

@@ -172,7 +172,7 @@ admitted_parts v w bodies after modes mode s window start exponent weight offloa
           (station_replaced v.members v.sleepers w.config.stations (roster w).stations s
           (Some (new_member exponent offloaded)) awake (Some (view_of x)) p.stations low
           (fresh_member w.config (as_mode mode) window start exponent weight offloaded)
-          (record { asleep = refl; credit = refl; stopped = refl }));
+          refl);
       windows = subst (WindowsStand after bodies) (sym (agreements_with_station w s (Some x)))
           (windows_reset v.windows after bodies (agreements w) s start window
           (session_in (Some x)) (mode_in (Some x)) p.windows reset

@@ -24,7 +24,7 @@ use Rattle.wf_send_half_model.specs.Readiness.{IsListedBut}
 use Rattle.wf_send_half_model.proofs.Reached.{reached_step}
 use Rattle.wf_send_half_model.proofs.Spared.{orderly_reached}
 use Rattle.wf_send_half_model.proofs.OwnClass.{own_less}
-use Rattle.wf_send_half_model.proofs.Pulled.{whole_pulled}
+use Rattle.wf_send_half_model.proofs.Pulled.{whole_less}
 use Rattle.wf_send_half_model.proofs.Beyond.{own_ended}
 use Rattle.wf_send_half_model.proofs.ChargedClass.{own_class}
 use Rattle.wf_send_half_model.proofs.Debts.{debtor_enqueued, debtor_pulled, debtor_ended, debtor_received}
@@ -72,7 +72,7 @@ pub pull_listed : (w : World) (c : Class) (l : Limits) (s : ℕ) → IsReached w
     IsListedBut (outcome_of w (Asked (Pull c l))).world s c
 pull_listed w c l s r won d other =
     still_listed w (outcome_of w (Asked (Pull c l))).world r s d (pull_lists w c d l s won other)
-    (λ is. sym (whole_pulled w c l s r won d (λ e. other (sym e))) ∙ is)
+    (whole_less w c l s r won d (λ e. other (sym e)))
     (debtor_pulled w c d l s won other)
 
 pub done_listed : (w : World) (e : ℕ) (x : Exchange) (heard : Bool) (air : Option ℕ) → IsReached w →

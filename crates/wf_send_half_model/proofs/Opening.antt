@@ -68,9 +68,7 @@ new_stands c bodies range = record {
       stations = record {
         sized = (length-replicate {A = Option Member} c.stations None, length-replicate c.stations awake);
         live = nobody c.stations;
-        asleep = λ s is. absurd (cc is);
-        credit = λ s is. absurd (cc is);
-        stopped = λ s is. absurd (cc is);
+        rests = λ s is. absurd (cc is);
       };
       modes = record {
         sized = length-replicate {A = Mode} (8 * c.stations) Plain;

@@ -279,7 +279,7 @@ own_less w s t flow len r done c other =
     let live : is_live w s ≡ true = not-false _ row.1.1.0 in
     let v : World = (enqueue_outcome w s t flow len).world in
     ready_less_by w v c s (rest_live w v s (rest_enqueued w s t flow len))
-    (receives_rest w v s c (rest_enqueued w s t flow len))
+    (λ is. sym (receives_rest w v s c (rest_enqueued w s t flow len)) ∙ is)
     (enqueued_less w s t flow len live r done (lower_tid c)
     (λ e. other (ap class_of (sym e) ∙ lower_class c)))
     (enqueued_less w s t flow len live r done (upper_tid c)

@@ -1,8 +1,8 @@
 -- Proves a pull except for its aggregate: the station that is picked, the turn, the exchange that opens, and
--- the credit that is spent.
-use Rattle.std.proofs.Common.{◌≡◌, refl, ap, ap₂, sym, ◌∙◌, subst, arith, ℕ, zero, suc, ◌+◌, ◌*◌, ◌<◌, ◌≤◌, ◌==◌, pos, ◌+ℤ◌, Bool, true, false, not, ◌&&◌, ◌||◌, if◌then◌else◌, List, [], ◌∷◌, ◌++◌, Option, Some, None, is_some, option_map, unwrap_or}
+-- what it spends of a credit and of a service period.
+use Rattle.std.proofs.Common.{◌≡◌, refl, ap, ap₂, sym, ◌∙◌, subst, arith, ℕ, zero, suc, ◌+◌, ◌*◌, ◌<◌, ◌≤◌, ◌==◌, pos, ◌+ℤ◌, Bool, true, false, not, ◌&&◌, ◌||◌, if◌then◌else◌, List, [], ◌∷◌, ◌++◌, length, Option, Some, None, is_some, option_map, unwrap_or}
 use Rattle.std.specs.Prelude.{nat_lt}
-use Rattle.std.proofs.lemmas.List.{map-append}
+use Rattle.std.proofs.lemmas.List.{map-append, length-map}
 use Rattle.std.specs.List.{list_any}
 use Rattle.wf_frame.specs.declared.classes.Class.{Class}
 use Rattle.wf_frame.specs.declared.settings.Config.{Config}
@@ -11,15 +11,15 @@ use Rattle.wf_frame.specs.declared.notes.Ask.TheVariants.{Pull}
 use Rattle.wf_frame.specs.declared.notes.Limits.{Limits}
 use Rattle.wf_frame.specs.declared.notes.Refusal.TheVariants.{Idle}
 use Rattle.wf_frame.specs.declared.notes.ReplyNote.TheVariants.{Send, Refused}
-use Rattle.wf_frame.specs.Classes.{lower_tid, upper_tid, tid_number}
+use Rattle.wf_frame.specs.Classes.{lower_tid, upper_tid, class_of}
 use Rattle.wf_frame.specs.Frames.{FrameValue}
 use Rattle.wf_def_lists.specs.Table.{at, count_from}
 use Rattle.wf_def_rotation.specs.Rotation.{in_order}
 use Rattle.wf_def_lists.specs.Bounds.{narrow_window}
-use Rattle.wf_def_world.specs.World.{World, Bounds, Station, Share, Content, Frames, Request, Exchange, no_station, quantum, is_live, is_offloaded, share, is_wide, rotation, on_share, with_bounds}
+use Rattle.wf_def_world.specs.World.{World, Bounds, Station, Share, Content, Frames, Request, Exchange, no_station, quantum, is_live, is_offloaded, station, share, is_wide, rotation, on_share, with_bounds}
 use Rattle.wf_def_world.specs.FlowQueues.{frames_queued as world_queued}
 use Rattle.wf_def_world.specs.CanSend.{can_send, has_waiting, is_request as sends_request}
-use Rattle.wf_def_world.specs.Exchanges.{picked_station, with_station_paid, with_stations_paid, after_pick, bounds_of, first_tid, other_tid, sending_tid, after_tid_turn, Prepared, has_more, exchange_of, with_exchange_opened, without_credit, part_of}
+use Rattle.wf_def_world.specs.Exchanges.{picked_station, with_station_paid, with_stations_paid, after_pick, bounds_of, first_tid, other_tid, sending_tid, after_tid_turn, Prepared, has_more_in, has_more, mpdus_of, exchange_of, with_exchange_opened, spent, with_spent, part_of}
 use Rattle.wf_def_world.specs.Refusals.{refusal}
 use Rattle.wf_def_world.specs.Step.{Outcome, after_refusal, send_outcome, step}
 use Rattle.wf_law_runs.proofs.Deficits.Books.{updc, updc_idle}
@@ -30,21 +30,21 @@ use Rattle.wf_sched_refines.proofs.Exchanges.{opened_stands}
 use Rattle.wf_sched_refines.proofs.Picks.{pick_stands}
 use Rattle.wf_sched_refines.proofs.Unchanged.{bounded_leaves, turn_leaves, spent_leaves}
 use Rattle.wf_queue_flows_refines.proofs.Leaves.{share_alone, opened_alone, stands_same}
-use Rattle.wf_queue_flows.specs.Flows.{frames_of_tid}
-use Rattle.wf_send_parts.specs.Windows.{window_of}
 use Rattle.wf_send_parts.specs.declared.exchanges.opened.Open.{Open}
-use Rattle.wf_send_parts.specs.Exchanges.{sending_is_request}
+use Rattle.wf_send_parts.specs.Exchanges.{sending_is_request, frames_carried}
 use Rattle.wf_send_parts.specs.declared.stations.members.Member.{Member}
 use Rattle.wf_send_parts.specs.Members.{member, is_offloaded_in, on_member, upper_in, with_upper}
-use Rattle.wf_send_parts.specs.Sleepers.{sleeper, with_sleeper}
-use Rattle.wf_send_half_model.specs.Half.{TransmitValue, is_plain_of, can_send_of, some_wait}
-use Rattle.wf_send_half_model.specs.Standing.{IsMember, AreBoth, sending_of, open_of, Parts, StandsFor, Meets}
-use Rattle.wf_send_half_model.specs.Pulling.{has_upper_turn, sending_tid_of, after_turn, is_wide_of, has_more_of, open_next, after_opening, after_pending_charge, after_spending, after_sending}
+use Rattle.wf_send_parts.specs.declared.stations.sleepers.Sleeper.{Sleeper}
+use Rattle.wf_send_parts.specs.Sleepers.{sleeper, is_delivered_in, is_polled_in, is_served_in, is_told_in, is_used_up, sleeper_spent}
+use Rattle.wf_send_parts.specs.Window.{on_air}
+use Rattle.wf_send_half_model.specs.Half.{TransmitValue, is_plain_of, can_send_of}
+use Rattle.wf_send_half_model.specs.Standing.{IsMember, AreBoth, sending_of, open_of, sleeper_of, Parts, StandsFor, Meets}
+use Rattle.wf_send_half_model.specs.Pulling.{has_upper_turn, sending_tid_of, after_turn, is_wide_of, has_some_of, has_more_in_of, has_more_of, ends_period_of, open_next, after_opening, after_pending_charge, after_spending, after_sending}
 use Rattle.wf_send_half_model.specs.Views.{view_of, roster, HasSameViews}
 use Rattle.wf_send_half_model.proofs.Views.{agreements_share, roster_share, ledger_share, reshared, view_reshared}
 use Rattle.wf_send_half_model.specs.Filling.{after_pick_within}
 use Rattle.wf_send_half_model.proofs.Stands.{Pieces, to_pieces, of_pieces, same_views}
-use Rattle.wf_send_half_model.proofs.Stations.{member_changed, sleeper_changed, turned, resting, station_parts}
+use Rattle.wf_send_half_model.proofs.Stations.{member_changed, turned, station_parts, sleeper_parts}
 use Rattle.wf_send_half_model.proofs.Listings.{views_here, views_then, views_rotation}
 use Rattle.wf_send_half_model.proofs.Reached.{reached_step, step_refused}
 use Rattle.wf_send_half_model.proofs.Readers.{can_send_same, offloaded_same, plain_same, queued_same, waiting_same, lower_low, upper_low}
@@ -224,8 +224,7 @@ turn_parts v w bodies s c t low h =
     (updc_idle (view_of x).received c (share_in x c).received refl))
     (turn_leaves w s c t v.sched h.others.turns)
     (λ k. member_changed v.members v.sleepers w.config.stations (roster w).stations s (with_upper c upper)
-    (λ x. record x { upper = updc x.upper c upper }) k low (turned c upper) (λ x. refl) (λ x. refl)
-    (λ x. refl)) h
+    (λ x. record x { upper = updc x.upper c upper }) k low (turned c upper) (λ x. refl)) h
 
 -- ---- the exchange opens
 
@@ -254,17 +253,27 @@ open_parts v w bodies x h =
       frames = p.frames;
     })
 
-pub spend_parts : (v : TransmitValue) (w : World) (bodies : ℕ → FrameValue) (s : ℕ) → s < w.config.stations →
-    Parts v w bodies → Parts (after_spending v s) (without_credit w s) bodies
-unfolding without_credit
-spend_parts v w bodies s low h =
-    station_parts v w bodies s (λ x. record x { credit = None }) (λ x. record x { credit = None }) v.members
-    (with_sleeper v.sleepers s (record (sleeper v.sleepers s) { credit = None })) v.sched
-    (λ x. refl) (λ x. refl) (spent_leaves w s v.sched h.others.turns)
-    (λ k. sleeper_changed v.members v.sleepers w.config.stations (roster w).stations s
-    (record (sleeper v.sleepers s) { credit = None }) (λ x. record x { credit = None }) k low
-    (λ m x. resting x.asleep None x.stopped m x)
-    (λ x y. record { asleep = y.asleep; credit = refl; stopped = y.stopped })) h
+sent_count : (x : Content) → frames_carried (sending_of x) ≡ length (mpdus_of x)
+sent_count (Frames mpdus) = length-map mpdus (λ m. on_air m.number)
+sent_count (Request start) = refl
+
+-- what an exchange spends of a station's credit and service period, in the view of the station
+spent_view : (x : Exchange) (y : Station) →
+    view_of (spent x y) ≡ record (view_of y) {
+      sleeper = sleeper_spent x.class (frames_carried (sending_of x.content)) x.eosp (sleeper_of y);
+    }
+spent_view x y =
+    ap (λ (n : ℕ). record (view_of y) { sleeper = sleeper_spent x.class n x.eosp (sleeper_of y) })
+    (sym (sent_count x.content))
+
+pub spend_parts : (v : TransmitValue) (w : World) (bodies : ℕ → FrameValue) (x : Exchange) →
+    x.station < w.config.stations → Parts v w bodies →
+    Parts (after_spending v (open_of x)) (with_spent w x) bodies
+unfolding with_spent
+spend_parts v w bodies x low h =
+    sleeper_parts v w bodies x.station (spent x)
+    (sleeper_spent x.class (frames_carried (sending_of x.content)) x.eosp) low (λ y. refl) (spent_view x)
+    (spent_leaves w x) h
 
 -- ---- the exchange's contents
 
@@ -280,12 +289,16 @@ any_below f g (suc m) from within same = ap₂ (λ (a b : Bool). a || b) (same f
 
 module _ (v : TransmitValue) (w : World) (bodies : ℕ → FrameValue) (s : ℕ) (h : Parts v w bodies)
     (live : is_live w s ≡ true) where
+  -- for each set of classes something waits in the half if, and only if, it waits in the world
+  pub more_in_same : (p : Class → Bool) → has_more_in_of v s p ≡ has_more_in w s p
+  more_in_same p = any_below (λ t. p (class_of t) && has_some_of v s t)
+      (λ t. p (class_of t) && (has_waiting w s t || nat_lt 0 (world_queued w s t))) 8 0 (omega arith)
+      (λ t low. ap₂ (λ (a : Bool) (n : ℕ). p (class_of t) && (a || nat_lt 0 n))
+      (waiting_same v w bodies s t h live low) (queued_same v w bodies s t h live low))
+
   pub more_same : has_more_of v s ≡ has_more w s
-  more_same = any_below (λ t. some_wait (window_of v.windows s t)
-      || nat_lt 0 (frames_of_tid v.flows (tid_number s t)))
-      (λ t. has_waiting w s t || nat_lt 0 (world_queued w s t)) 8 0 (omega arith)
-      (λ t low. ap₂ (λ (a : Bool) (n : ℕ). a || nat_lt 0 n) (waiting_same v w bodies s t h live low)
-      (queued_same v w bodies s t h live low))
+  more_same = ap (λ (y : Sleeper). has_more_in_of v s (is_polled_in y)) (h.others.stations.rests s live)
+      ∙ more_in_same (is_polled_in (sleeper_of (station w s)))
 
 pub wide_same : (v : TransmitValue) (w : World) (bodies : ℕ → FrameValue) (s t : ℕ) → Parts v w bodies →
     is_live w s ≡ true → t < 8 → is_wide_of v s t ≡ is_wide w s t
@@ -296,6 +309,32 @@ wide_same v w bodies s t h live low = ap (λ (n : ℕ). nat_lt narrow_window n)
 
 module _ (v : TransmitValue) (bodies : ℕ → FrameValue) (s t : ℕ) (c : Class) (p : Prepared)
     (h : Parts v p.world bodies) (live : is_live p.world s ≡ true) (low : t < 8) where
+  -- the power save of the station
+  abbrev here : Sleeper
+  here = sleeper_of (station p.world s)
+
+  rests_here : sleeper v.sleepers s ≡ here
+  rests_here = h.others.stations.rests s live
+
+  more_is : (open_next v s t c p.charge (sending_of p.content)).more ≡ (exchange_of s t c p).more
+  more_is =
+      ap (λ (y : Sleeper). y.asleep && (not (sending_is_request (sending_of p.content))
+      && has_more_in_of v s (is_told_in y c))) rests_here
+      ∙ ap₂ (λ (a b : Bool). here.asleep && (not a && b)) (request_same p.content)
+      (more_in_same v p.world bodies s h live (is_told_in here c))
+
+  eosp_is : ends_period_of v s c (sending_of p.content) ≡ (exchange_of s t c p).eosp
+  eosp_is =
+      ap (λ (y : Sleeper). is_served_in y c && (not (sending_is_request (sending_of p.content))
+      && (is_used_up y (frames_carried (sending_of p.content))
+      || not (has_more_in_of v s (is_delivered_in y))))) rests_here
+      ∙ ap₂ (λ (a : Bool) (n : ℕ). is_served_in here c && (not a
+      && (is_used_up here n || not (has_more_in_of v s (is_delivered_in here)))))
+      (request_same p.content) (sent_count p.content)
+      ∙ ap (λ (b : Bool). is_served_in here c && (not (sends_request p.content)
+      && (is_used_up here (length (mpdus_of p.content)) || not b)))
+      (more_in_same v p.world bodies s h live (is_delivered_in here))
+
   pub open_same : open_next v s t c p.charge (sending_of p.content) ≡ open_of (exchange_of s t c p)
   open_same =
       ap (λ (n : ℕ). record (open_next v s t c p.charge (sending_of p.content)) { number = n })
@@ -309,9 +348,7 @@ module _ (v : TransmitValue) (bodies : ℕ → FrameValue) (s t : ℕ) (c : Clas
         batch = is_offloaded p.world s;
         plain = b;
       }) (plain_same v p.world bodies s t h live low)
-      ∙ ap (λ (b : Bool). record (open_of (exchange_of s t c p)) { more = b })
-      (ap₂ (λ (a b : Bool). a && b) (h.others.stations.asleep s live)
-      (ap₂ (λ (a b : Bool). not a && b) (request_same p.content) (more_same v p.world bodies s h live)))
+      ∙ ap₂ (λ (a b : Bool). record (open_of (exchange_of s t c p)) { more = a; eosp = b }) more_is eosp_is
 
   opened_low : (x : Exchange) → s < (with_exchange_opened p.world x).config.stations
   unfolding with_exchange_opened
@@ -322,15 +359,17 @@ module _ (v : TransmitValue) (bodies : ℕ → FrameValue) (s t : ℕ) (c : Clas
   unfolding send_outcome
   send_parts =
       let x : Exchange = exchange_of s t c p in
-      subst (λ (o : Open). Parts (after_spending (after_pending_charge (after_opening v o) o) s)
-      (without_credit (with_exchange_opened p.world x) s) bodies) (sym open_same)
+      subst (λ (o : Open). Parts (after_spending (after_pending_charge (after_opening v o) o) o)
+      (with_spent (with_exchange_opened p.world x) x) bodies) (sym open_same)
       (spend_parts (after_pending_charge (after_opening v (open_of x)) (open_of x))
-      (with_exchange_opened p.world x) bodies s (opened_low x)
+      (with_exchange_opened p.world x) bodies x (opened_low x)
       (open_parts v p.world bodies x h))
 
   pub send_reply : Send v.exchanges s t p.charge
       (part_of (is_offloaded_in v.members s) (is_plain_of v s t) p.content)
-      (open_next v s t c p.charge (sending_of p.content)).more ≡ (send_outcome s t c p).reply
+      (open_next v s t c p.charge (sending_of p.content)).more
+      (open_next v s t c p.charge (sending_of p.content)).eosp
+      ≡ (send_outcome s t c p).reply
   unfolding send_outcome
-  send_reply = ap (λ (o : Open). Send o.number s t p.charge (part_of o.batch o.plain p.content) o.more)
+  send_reply = ap (λ (o : Open). Send o.number s t p.charge (part_of o.batch o.plain p.content) o.more o.eosp)
       open_same

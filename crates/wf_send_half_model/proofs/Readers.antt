@@ -7,15 +7,15 @@ use Rattle.std.proofs.lemmas.Int.{ints}
 use Rattle.std.proofs.lemmas.List.Sums.{sum_by-cons}
 use Rattle.wf_frame.specs.declared.classes.Class.{Class}
 use Rattle.wf_frame.specs.declared.classes.Class.TheVariants.{Bk, Be, Vi, Vo}
-use Rattle.wf_frame.specs.Classes.{lower_tid, upper_tid, same_class, tid_number}
+use Rattle.wf_frame.specs.Classes.{lower_tid, upper_tid, class_of, same_class, tid_number}
 use Rattle.wf_frame.specs.Frames.{FrameValue}
 use Rattle.wf_def_agreement.specs.Session.{request_due, has_room}
 use Rattle.wf_def_lists.specs.Table.{at, upto, count_from}
 use Rattle.wf_def_world.specs.World.{World, Station, Exchange, Content, Frames, Request, no_station, has_agreement, holds_back, is_live, is_offloaded, is_agreed, is_plain, is_held_back, session, share, exchange, owed, owed_by_all, pending_air, standing}
 use Rattle.wf_def_world.specs.FlowQueues.{frames_queued as world_queued}
-use Rattle.wf_def_world.specs.CanSend.{is_request as world_request, request_open, has_waiting, can_give, can_send, has_credit, can_send_in, is_below_aql, may_receive, is_ready, is_debtor, is_to_list}
+use Rattle.wf_def_world.specs.CanSend.{is_request as world_request, request_open, has_waiting, can_give, can_send, can_send_in, is_below_aql, may_receive, is_ready, is_debtor, is_to_list}
 use Rattle.wf_def_world.specs.Refusals.{is_live_credit, has_live_credit, is_at_aql_total, open_of_station, open_of_tid, open_of_class, numbers_waiting, can_send_any, queued_in_class}
-use Rattle.wf_def_world.specs.Step.{class_to_send}
+use Rattle.wf_def_world.specs.Step.{first_to_send}
 use Rattle.wf_queue_flows.specs.Flows.{frames_of_tid}
 use Rattle.wf_queue_flows_refines.proofs.Readers.{same_queued}
 use Rattle.wf_sched.specs.ClassRotas.{deficit}
@@ -27,7 +27,8 @@ use Rattle.wf_send_parts.specs.declared.exchanges.opened.Open.{Open}
 use Rattle.wf_send_parts.specs.Exchanges.{sending_is_request, asks, airtime_of, airtime_to}
 use Rattle.wf_send_parts.specs.declared.stations.members.Member.{Member}
 use Rattle.wf_send_parts.specs.Members.{member, is_offloaded_in}
-use Rattle.wf_send_parts.specs.Sleepers.{sleeper}
+use Rattle.wf_send_parts.specs.declared.stations.sleepers.Sleeper.{Sleeper}
+use Rattle.wf_send_parts.specs.Sleepers.{sleeper, is_reachable_in}
 use Rattle.wf_send_half_model.specs.Half.{TransmitValue, some_wait, is_agreed_of, is_plain_of, is_held_back_of, can_give_of, can_send_of, is_below_aql_of, may_receive_of, is_ready_of, pending_air_of, is_live_credit_of, has_live_credit_of, is_debtor_of, is_to_list_of, is_ahead_of}
 use Rattle.wf_send_half_model.specs.Standing.{sending_of, open_of, IsMember, AreBoth, Parts}
 
@@ -229,10 +230,8 @@ ready_same v w bodies c s h = elim (cases_Bool (is_live w s)) [
   | inl live ↦
       ap₂ (λ (a b : Bool). a && b) (live_same v w bodies s h)
       (ap₂ (λ (a b : Bool). a && b) (can_send_in_same v w bodies s c h live)
-      (ap₂ (λ (a b : Bool). not a && b) (h.others.stations.stopped s live)
-      (ap₂ (λ (a b : Bool). a && b)
-      (ap₂ (λ (a : Bool) (k : Option Class). not a || has_credit k c) (h.others.stations.asleep s live)
-      (h.others.stations.credit s live)) (below_aql_same v w bodies s c h))))
+      (ap₂ (λ (y : Sleeper) (b : Bool). not y.stopped && (is_reachable_in y c && b))
+      (h.others.stations.rests s live) (below_aql_same v w bodies s c h)))
   | inr off ↦
       ap (λ (b : Bool). b && ((can_send_of v s (lower_tid c) || can_send_of v s (upper_tid c))
       && may_receive_of v s c))
@@ -276,7 +275,7 @@ pub to_list_same : (v : TransmitValue) (w : World) (bodies : ℕ → FrameValue)
 to_list_same v w bodies c s h = ap₂ (λ (a b : Bool). a || b) (ready_same v w bodies c s h)
     (debtor_same v w bodies c s h)
 
--- ---- the tests of refusals and of a poll
+-- ---- the tests of refusals, and the class of a poll or a trigger
 
 -- two tests that agree on every class find the same one
 find_same : (p q : Class → Bool) → ((c : Class) → p c ≡ q c) → (cs : List Class) → find p cs ≡ find q cs
@@ -285,17 +284,19 @@ find_same p q same (c ∷ cs) = ap₂ (λ (b : Bool) (o : Option Class). if b th
     (find_same p q same cs)
 
 pub class_same : (v : TransmitValue) (w : World) (bodies : ℕ → FrameValue) (s : ℕ) → Parts v w bodies →
-    is_live w s ≡ true →
-    unwrap_or (find (λ c. can_send_of v s (lower_tid c) || can_send_of v s (upper_tid c)) (Vo ∷ Vi ∷ Be ∷ []))
-    Bk ≡ class_to_send w s
-class_same v w bodies s h live = ap (λ (o : Option Class). unwrap_or o Bk)
-    (find_same _ (can_send_in w s) (λ c. can_send_in_same v w bodies s c h live) (Vo ∷ Vi ∷ Be ∷ []))
+    is_live w s ≡ true → (p : Class → Bool) →
+    unwrap_or (find (λ c. p c && (can_send_of v s (lower_tid c) || can_send_of v s (upper_tid c)))
+    (Vo ∷ Vi ∷ Be ∷ [])) Bk ≡ first_to_send w s p
+class_same v w bodies s h live p = ap (λ (o : Option Class). unwrap_or o Bk)
+    (find_same _ (λ c. p c && can_send_in w s c)
+    (λ c. ap (λ (b : Bool). p c && b) (can_send_in_same v w bodies s c h live)) (Vo ∷ Vi ∷ Be ∷ []))
 
 -- a credit blocks a poll on both sides, or on neither
 pub live_credit_same : (v : TransmitValue) (w : World) (bodies : ℕ → FrameValue) (s : ℕ) → Parts v w bodies →
     is_live w s ≡ true → has_live_credit_of v s ≡ has_live_credit w s
 live_credit_same v w bodies s h live =
-    blocks (sleeper v.sleepers s).credit ∙ ap (is_live_credit w s) (h.others.stations.credit s live)
+    blocks (sleeper v.sleepers s).credit
+    ∙ ap (λ (y : Sleeper). is_live_credit w s y.credit) (h.others.stations.rests s live)
   where
     blocks : (o : Option Class) → is_live_credit_of v s o ≡ is_live_credit w s o
     blocks None = refl
@@ -310,9 +311,12 @@ any_same p q (suc n) from same = ap₂ (λ (a b : Bool). a || b) (same from (ome
     (any_same p q n (suc from) (λ t low. same t (omega (arith, low))))
 
 pub any_tid_same : (v : TransmitValue) (w : World) (bodies : ℕ → FrameValue) (s : ℕ) → Parts v w bodies →
-    is_live w s ≡ true → list_any (can_send_of v s) (upto 8) ≡ can_send_any w s
-any_tid_same v w bodies s h live = any_same (can_send_of v s) (can_send w s) 8 0
-    (λ t low. can_send_same v w bodies s t h live (omega (arith, low)))
+    is_live w s ≡ true → (p : Class → Bool) →
+    list_any (λ t. p (class_of t) && can_send_of v s t) (upto 8) ≡ can_send_any w s p
+any_tid_same v w bodies s h live p =
+    any_same (λ t. p (class_of t) && can_send_of v s t) (λ t. p (class_of t) && can_send w s t) 8 0
+    (λ t low. ap (λ (b : Bool). p (class_of t) && b)
+    (can_send_same v w bodies s t h live (omega (arith, low))))
 
 pub class_queued_same : (v : TransmitValue) (w : World) (bodies : ℕ → FrameValue) (s : ℕ) (c : Class) →
     Parts v w bodies → is_live w s ≡ true →

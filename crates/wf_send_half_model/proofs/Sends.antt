@@ -153,7 +153,8 @@ module _ (v : TransmitValue) (w : World) (bodies : ℕ → FrameValue) (h : Stan
       Meets w sent (Asked (Pull c l)) (after_listing_in
       (after_sending x s t c p.charge (sending_of p.content)) s c)
       (Send x.exchanges s t p.charge (part_of (is_offloaded_in x.members s) (is_plain_of x s t) p.content)
-      (open_next x s t c p.charge (sending_of p.content)).more)
+      (open_next x s t c p.charge (sending_of p.content)).more
+      (open_next x s t c p.charge (sending_of p.content)).eosp)
   sent_meets sent p is x parts live low =
       let all : outcome_of w (Asked (Pull c l)) ≡ send_outcome s t c p =
       pull_is w c l ∙ ap (pull_outcome_for w0 c) won ∙ pull_for w0 c s
@@ -173,7 +174,8 @@ module _ (v : TransmitValue) (w : World) (bodies : ℕ → FrameValue) (h : Stan
       Meets w bodies (Asked (Pull c l)) (after_listing_in
       (after_sending x s t c charge (Starts_at (window_of x.windows s t).start)) s c)
       (Send x.exchanges s t charge (Starts (window_of x.windows s t).start)
-      (open_next x s t c charge (Starts_at (window_of x.windows s t).start)).more)
+      (open_next x s t c charge (Starts_at (window_of x.windows s t).start)).more
+      (open_next x s t c charge (Starts_at (window_of x.windows s t).start)).eosp)
   request_meets x to due charge charge_is =
       let stands = to.parts.windows.all.stands s t to.live to.tid in
       let is_due : request_due (session w1 s t) ≡ true =
@@ -183,12 +185,14 @@ module _ (v : TransmitValue) (w : World) (bodies : ℕ → FrameValue) (h : Stan
       subst (λ (n : ℕ). Meets w bodies (Asked (Pull c l))
       (after_listing_in (after_sending x s t c n (Starts_at (window_of x.windows s t).start)) s c)
       (Send x.exchanges s t n (Starts (window_of x.windows s t).start)
-      (open_next x s t c n (Starts_at (window_of x.windows s t).start)).more))
+      (open_next x s t c n (Starts_at (window_of x.windows s t).start)).more
+      (open_next x s t c n (Starts_at (window_of x.windows s t).start)).eosp))
       (sym (charged_as x w1 bodies s t charge to.parts to.live to.tid charge_is))
       (subst (λ (k : ℕ). Meets w bodies (Asked (Pull c l))
       (after_listing_in (after_sending x s t c (prepared_request w1 s t).charge (Starts_at k)) s c)
       (Send x.exchanges s t (prepared_request w1 s t).charge (Starts k)
-      (open_next x s t c (prepared_request w1 s t).charge (Starts_at k)).more))
+      (open_next x s t c (prepared_request w1 s t).charge (Starts_at k)).more
+      (open_next x s t c (prepared_request w1 s t).charge (Starts_at k)).eosp))
       (sym stands.start) meets)
 
   -- an aggregate
@@ -199,7 +203,8 @@ module _ (v : TransmitValue) (w : World) (bodies : ℕ → FrameValue) (h : Stan
       (after_sending x s t c (aggregate_charge s t a) (Data (numbers_on_air a.mpdus))) s c)
       (Send x.exchanges s t (aggregate_charge s t a)
       (part_of (is_offloaded_in x.members s) (is_plain_of x s t) (Frames a.mpdus))
-      (open_next x s t c (aggregate_charge s t a) (Data (numbers_on_air a.mpdus))).more)
+      (open_next x s t c (aggregate_charge s t a) (Data (numbers_on_air a.mpdus))).more
+      (open_next x s t c (aggregate_charge s t a) (Data (numbers_on_air a.mpdus))).eosp)
   unfolding prepared_data
   data_sent a is quiet x sent parts live low = sent_meets sent (prepared_data s t a)
       (quiet_prepared w1 s t quiet ∙ ap (prepared_data s t) is) x parts live low
@@ -211,7 +216,8 @@ module _ (v : TransmitValue) (w : World) (bodies : ℕ → FrameValue) (h : Stan
       Meets w sent (Asked (Pull c l)) (after_listing_in (after_sending x s t c charge (Data numbers)) s c)
       (Send x.exchanges s t charge
       (part_of (is_offloaded_in x.members s) (is_plain_of x s t) (Frames a.mpdus))
-      (open_next x s t c charge (Data numbers)).more)
+      (open_next x s t c charge (Data numbers)).more
+      (open_next x s t c charge (Data numbers)).eosp)
   data_meets a is quiet x u sent left charge numbers charge_is numbers_is =
       let live : is_live (prepared_data s t a).world s ≡ true =
       ap (λ (z : World). is_live z s) (sym left.leads)
@@ -222,12 +228,14 @@ module _ (v : TransmitValue) (w : World) (bodies : ℕ → FrameValue) (h : Stan
       subst (λ (n : ℕ). Meets w sent (Asked (Pull c l))
       (after_listing_in (after_sending x s t c n (Data numbers)) s c)
       (Send x.exchanges s t n (part_of (is_offloaded_in x.members s) (is_plain_of x s t) (Frames a.mpdus))
-      (open_next x s t c n (Data numbers)).more)) (sym charge_is)
+      (open_next x s t c n (Data numbers)).more
+      (open_next x s t c n (Data numbers)).eosp)) (sym charge_is)
       (subst (λ (ns : List ℕ). Meets w sent (Asked (Pull c l))
       (after_listing_in (after_sending x s t c (aggregate_charge s t a) (Data ns)) s c)
       (Send x.exchanges s t (aggregate_charge s t a)
       (part_of (is_offloaded_in x.members s) (is_plain_of x s t) (Frames a.mpdus))
-      (open_next x s t c (aggregate_charge s t a) (Data ns)).more)) (sym numbers_is) meets)
+      (open_next x s t c (aggregate_charge s t a) (Data ns)).more
+      (open_next x s t c (aggregate_charge s t a) (Data ns)).eosp)) (sym numbers_is) meets)
 
 -- ---- its charge
 

@@ -10,7 +10,7 @@ use Rattle.wf_frame.specs.declared.notes.Note.{Note}
 use Rattle.wf_frame.specs.declared.notes.Limits.{Limits}
 use Rattle.wf_law_runs.proofs.Common.Picked.{picked_world}
 use Rattle.wf_frame.specs.declared.notes.Note.TheVariants.{Enqueue, Asked}
-use Rattle.wf_frame.specs.declared.notes.Ask.TheVariants.{Join, Leave, Rate, Tick, Pull, Arrive, Answer, Done, Sleep, Wake, Poll, Rx, Reap, Ampdu, Stop, Start, Unsent, GiveUp, Flush, Offload, Weight, Hold, Begin, Free, Cease, Group}
+use Rattle.wf_frame.specs.declared.notes.Ask.TheVariants.{Join, Leave, Rate, Tick, Pull, Arrive, Answer, Done, Sleep, Wake, Poll, Rx, Reap, Ampdu, Stop, Start, Unsent, GiveUp, Flush, Offload, Weight, Hold, Begin, Free, Cease, Group, Service}
 use Rattle.wf_frame.specs.declared.notes.Ask.TheVariants as call
 use Rattle.wf_frame.specs.declared.notes.Refusal.{Refusal}
 use Rattle.wf_frame.specs.declared.notes.Refusal.TheVariants.{Idle}
@@ -21,8 +21,9 @@ use Rattle.wf_def_codel.specs.Codel.{Item}
 use Rattle.wf_def_rotation.specs.Rotation.{Rotation, has_key, in_order}
 use Rattle.wf_def_agreement.specs.Session.{Session, waiting_numbers, request_due, has_room}
 use Rattle.wf_def_world.specs.World.{World, Station, Queue, Exchange, no_tid, no_station, new_queue, holds_back, is_held_back, tid_of, session, queue, is_live, rotation, exchange, on_queue, with_rotation, on_station, with_station, on_share, with_frame_finished, with_fate, with_queues, on_tid}
+use Rattle.wf_def_world.specs.Service.{station_served}
 use Rattle.wf_def_world.specs.FlowQueues.{frames_queued, is_at_limit, longest_queue, without_head, after_limit, queue_for, with_appended, when_listed, with_listed_queue, after_put_in}
-use Rattle.wf_def_world.specs.CanSend.{request_open, can_send, can_send_in, has_credit, may_receive, is_ready, with_listing_in, with_listings_in, with_listings_of}
+use Rattle.wf_def_world.specs.CanSend.{request_open, can_send, can_send_in, is_reachable, may_receive, is_ready, with_listing_in, with_listings_in, with_listings_of}
 use Rattle.wf_def_world.specs.Exchanges.{after_pick, picked_station, station_need}
 use Rattle.wf_def_world.specs.Refusals.{refusal, refusals}
 use Rattle.wf_def_world.specs.Step.{Outcome, outcome_of, concerned_station, after_refusal, step, next_item, with_frame, enqueue_outcome, join_outcome, offload_outcome, plain_outcome, weight_outcome, hold_outcome, begin_outcome, free_outcome, cease_outcome, rate_outcome, tick_outcome, pull_outcome_for, pull_outcome, outcome_where_open, sleep_outcome, wake_outcome, poll_outcome, rx_outcome, reap_outcome, arrive_outcome, answer_outcome, unsent_outcome, give_up_outcome, done_outcome}
@@ -97,16 +98,22 @@ can_send_less w v s t h e =
     h.session
     ∙ ap₂ (λ (a b : Bool). sends_by (session w s t) a b (frames_queued v s t)) h.held h.request) ∙ e)
 
+-- a TID that is the same has no more frames
+pub same_less : (w v : World) (s t : ℕ) → IsSameTid w v s t → IsLessTid w v s t
+same_less w v s t h =
+    record { session = h.session; held = h.held; request = h.request; queued = omega (arith, h.queued) }
+
 either_less : (a b c d : Bool) → (a ≡ true → c ≡ true) → (b ≡ true → d ≡ true) → a || b ≡ true →
     c || d ≡ true
 either_less true b c d h k e = ap (λ (z : Bool). z || d) (h refl)
 either_less false b true d h k e = refl
 either_less false b false d h k e = k e
 
--- if only the number of queued frames falls, no station becomes ready
+-- if only the number of queued frames falls, and the station may receive only where it might before, no
+-- station becomes ready
 pub ready_less_by : (w v : World) (c : Class) (s : ℕ) → is_live v s ≡ is_live w s →
-    may_receive v s c ≡ may_receive w s c → IsLessTid w v s (lower_tid c) → IsLessTid w v s (upper_tid c) →
-    is_ready v c s ≡ true → is_ready w c s ≡ true
+    (may_receive v s c ≡ true → may_receive w s c ≡ true) → IsLessTid w v s (lower_tid c) →
+    IsLessTid w v s (upper_tid c) → is_ready v c s ≡ true → is_ready w c s ≡ true
 ready_less_by w v c s live may lower upper h =
     let parts = and_parts (is_live v s) _ h in
     let more = and_parts (can_send_in v s c) (may_receive v s c) parts.1 in
@@ -115,7 +122,7 @@ ready_less_by w v c s live may lower upper h =
     either_less (can_send v s (lower_tid c)) (can_send v s (upper_tid c)) (can_send w s (lower_tid c))
     (can_send w s (upper_tid c)) (can_send_less w v s (lower_tid c) lower)
     (can_send_less w v s (upper_tid c) upper) more.0 in
-    let receives_there : may_receive w s c ≡ true = sym may ∙ more.1 in
+    let receives_there : may_receive w s c ≡ true = may more.1 in
     rw (is, sends_there, receives_there) refl
 
 -- whether a station is ready, by whether it is live, its two TIDs can send, and it may receive
@@ -223,7 +230,7 @@ module _ (w v : World) (i s : ℕ) (other : s ≡ i → ⊥) (m : IsMild i w v) 
       (ap₂ (λ (a b : Bool). a && b)
       (sends_same (λ x. not x.stopped) (λ x. refl) (at None v.stations s) (at None w.stations s) same)
       (ap₂ (λ (a b : Bool). a && b)
-      (sends_same (λ x. not x.asleep || has_credit x.credit c) (λ x. refl) (at None v.stations s)
+      (sends_same (λ x. is_reachable x c) (λ x. refl) (at None v.stations s)
       (at None w.stations s) same)
       (ap₂ (λ (config : Config) (n : ℕ). (config.aql == 0) || nat_lt n config.aql) m.config
       (m.airtime s c other))))
@@ -396,6 +403,8 @@ long_done (Asked (Sleep i)) w s t q r keeps other spared k = long_on_station w i
 long_done (Asked (Ampdu i octets)) w s t q r keeps other spared k = long_on_station w i q _
 long_done (Asked (Stop i)) w s t q r keeps other spared k = long_on_station w i q _
 long_done (Asked (Start i)) w s t q r keeps other spared k = long_on_station w i q _
+long_done (Asked (Service ask)) w s t q r keeps other spared k =
+    long_on_station w (station_served ask) q _
 long_done (Asked (Wake i)) w s t q r keeps other spared k = long_on_station w i q _
 long_done (Asked (Poll i)) w s t q r keeps other spared k = long_on_station w i q _
 long_done (Asked (Rx i c air)) w s t q r keeps other spared k = long_on_station w i q _

@@ -22,7 +22,7 @@ use Rattle.wf_queue_flows_refines.proofs.Leaves.{stands_same}
 use Rattle.wf_sched.specs.ClassRotas.{SchedValue}
 use Rattle.wf_sched_refines.specs.Standing.{SchedulerStandsFor as TurnsStandFor, LeavesRotas}
 use Rattle.wf_send_half_model.specs.Half.{TransmitValue}
-use Rattle.wf_send_half_model.specs.Standing.{HasFour, IsMember, AreBoth, HasWindows, Parts}
+use Rattle.wf_send_half_model.specs.Standing.{HasFour, IsMember, sleeper_of, AreBoth, HasWindows, Parts}
 use Rattle.wf_send_half_model.specs.Views.{Agreements, agreements, StationView, view_of, Roster, roster, Ledger, ledger, HasSameViews}
 
 -- ---- windows
@@ -66,10 +66,8 @@ pub record IsOfView (m : Member) (x : StationView) : Type 0 where
   pub received : (c : Class) → received_in m c ≡ x.received c
 
 -- a sleeper represents a station's view
-pub record IsSleeperOf (y : Sleeper) (x : StationView) : Type 0 where
-  pub asleep : y.asleep ≡ x.asleep
-  pub credit : y.credit ≡ x.credit
-  pub stopped : y.stopped ≡ x.stopped
+abbrev pub IsSleeperOf : Sleeper → StationView → Type 0
+IsSleeperOf y x = y ≡ x.sleeper
 
 pub record StationsStand (members : List (Option Member)) (sleepers : List Sleeper) (count : ℕ)
     (stations : ℕ → Option StationView) : Type 0 where
@@ -111,28 +109,15 @@ view_member (Some m) (Some x) h = record {
 }
 
 sleeper_view : (y : Sleeper) (o : Option Station) →
-    (is_some o ≡ true → y.asleep ≡ (unwrap_or o no_station).asleep) →
-    (is_some o ≡ true → y.credit ≡ (unwrap_or o no_station).credit) →
-    (is_some o ≡ true → y.stopped ≡ (unwrap_or o no_station).stopped) →
+    (is_some o ≡ true → y ≡ sleeper_of (unwrap_or o no_station)) →
     IfSome (option_map view_of o) (IsSleeperOf y)
-sleeper_view y None asleep credit stopped = tt
-sleeper_view y (Some x) asleep credit stopped =
-    record { asleep = asleep refl; credit = credit refl; stopped = stopped refl }
+sleeper_view y None h = tt
+sleeper_view y (Some x) h = h refl
 
-view_asleep : (y : Sleeper) (o : Option Station) → IfSome (option_map view_of o) (IsSleeperOf y) →
-    is_some o ≡ true → y.asleep ≡ (unwrap_or o no_station).asleep
-view_asleep y None h is = absurd (cc is)
-view_asleep y (Some x) h is = h.asleep
-
-view_credit : (y : Sleeper) (o : Option Station) → IfSome (option_map view_of o) (IsSleeperOf y) →
-    is_some o ≡ true → y.credit ≡ (unwrap_or o no_station).credit
-view_credit y None h is = absurd (cc is)
-view_credit y (Some x) h is = h.credit
-
-view_stopped : (y : Sleeper) (o : Option Station) → IfSome (option_map view_of o) (IsSleeperOf y) →
-    is_some o ≡ true → y.stopped ≡ (unwrap_or o no_station).stopped
-view_stopped y None h is = absurd (cc is)
-view_stopped y (Some x) h is = h.stopped
+view_sleeper : (y : Sleeper) (o : Option Station) → IfSome (option_map view_of o) (IsSleeperOf y) →
+    is_some o ≡ true → y ≡ sleeper_of (unwrap_or o no_station)
+view_sleeper y None h is = absurd (cc is)
+view_sleeper y (Some x) h is = h
 
 -- ---- the ledger
 
@@ -169,8 +154,7 @@ to_pieces v w bodies h = record {
     members_sized = h.others.stations.sized.0;
     sleepers_sized = h.others.stations.sized.1;
     live = λ s. member_view (member v.members s) (at None w.stations s) (h.others.stations.live s);
-    rests = λ s. sleeper_view (sleeper v.sleepers s) (at None w.stations s) (h.others.stations.asleep s)
-        (h.others.stations.credit s) (h.others.stations.stopped s);
+    rests = λ s. sleeper_view (sleeper v.sleepers s) (at None w.stations s) (h.others.stations.rests s);
   };
   windows = to_agreements v.windows w bodies h.windows;
   modes = record { sized = h.others.modes.sized; each = h.others.modes.each };
@@ -195,9 +179,7 @@ of_pieces v w bodies h = record {
     stations = record {
       sized = (h.stations.members_sized, h.stations.sleepers_sized);
       live = λ s. view_member (member v.members s) (at None w.stations s) (h.stations.live s);
-      asleep = λ s. view_asleep (sleeper v.sleepers s) (at None w.stations s) (h.stations.rests s);
-      credit = λ s. view_credit (sleeper v.sleepers s) (at None w.stations s) (h.stations.rests s);
-      stopped = λ s. view_stopped (sleeper v.sleepers s) (at None w.stations s) (h.stations.rests s);
+      rests = λ s. view_sleeper (sleeper v.sleepers s) (at None w.stations s) (h.stations.rests s);
     };
     modes = record { sized = h.modes.sized; each = h.modes.each };
     inside = h.ledger.count;

@@ -9,7 +9,7 @@ use Rattle.wf_def_world.specs.World.{World, Station, on_station}
 use Rattle.wf_law_runs.proofs.Deficits.Books.{upd, updc}
 use Rattle.wf_sched.specs.ClassRotas.{SchedValue}
 use Rattle.wf_sched.proofs.Views.{class_below}
-use Rattle.wf_sched_refines.specs.Standing.{SchedulerStandsFor as TurnsStandFor}
+use Rattle.wf_sched_refines.specs.Standing.{SchedulerStandsFor as TurnsStandFor, LeavesRotas}
 use Rattle.wf_sched_refines.proofs.Stands.{each_other, each_other_class}
 use Rattle.wf_queue_flows_refines.proofs.Leaves.{stands_same, station_alone}
 use Rattle.wf_send_parts.specs.declared.stations.members.Member.{Member}
@@ -64,42 +64,54 @@ pub member_changed : (members : List (Option Member)) (sleepers : List Sleeper) 
     (stations : ℕ → Option StationView) (s : ℕ) (f : Member → Member) (g : StationView → StationView) →
     StationsStand members sleepers count stations → s < count →
     ((m : Member) (x : StationView) → IsOfView m x → IsOfView (f m) (g x)) →
-    ((x : StationView) → (g x).asleep ≡ x.asleep) → ((x : StationView) → (g x).credit ≡ x.credit) →
-    ((x : StationView) → (g x).stopped ≡ x.stopped) →
+    ((x : StationView) → (g x).sleeper ≡ x.sleeper) →
     StationsStand (on_member members s f) sleepers count (upd stations s (option_map g (stations s)))
-member_changed members sleepers count stations s f g h low keeps asleep credit stopped =
+member_changed members sleepers count stations s f g h low keeps rests =
     subst (λ (ys : List Sleeper). StationsStand (on_member members s f) ys count
     (upd stations s (option_map g (stations s)))) (set-get_or sleepers s awake)
     (station_replaced members sleepers count stations s (option_map f (member members s)) (sleeper sleepers s)
     (option_map g (stations s)) h low
     (both_mapped f g keeps (member members s) (stations s) (h.live s))
-    (sleeps_mapped (sleeper sleepers s) (sleeper sleepers s) g
-    (λ x k. record {
-      asleep = k.asleep ∙ sym (asleep x);
-      credit = k.credit ∙ sym (credit x);
-      stopped = k.stopped ∙ sym (stopped x);
-    })
-    (stations s) (h.rests s)))
+    (sleeps_mapped (sleeper sleepers s) (sleeper sleepers s) g (λ x k. k ∙ sym (rests x)) (stations s)
+    (h.rests s)))
 
 none_mapped : (m : Option Member) → option_map (λ (z : Member). z) m ≡ m
 none_mapped None = refl
 none_mapped (Some m) = refl
 
--- only the sleeper changes
-pub sleeper_changed : (members : List (Option Member)) (sleepers : List Sleeper) (count : ℕ)
-    (stations : ℕ → Option StationView) (s : ℕ) (z : Sleeper) (g : StationView → StationView) →
+-- a member does not depend on power save and stops
+resting : (y : Sleeper) (m : Member) (x : StationView) → IsOfView m x → IsOfView m (record x { sleeper = y })
+resting y m x h = record {
+  four = h.four;
+  rate = h.rate;
+  exponent = h.exponent;
+  ampdu = h.ampdu;
+  offloaded = h.offloaded;
+  upper = h.upper;
+  charged = h.charged;
+  received = h.received;
+}
+
+-- a view whose sleeper changes by g
+abbrev pub on_sleeper : (Sleeper → Sleeper) → StationView → StationView
+on_sleeper g x = record x { sleeper = g x.sleeper }
+
+-- only the sleeper changes, by g
+sleeper_changed : (members : List (Option Member)) (sleepers : List Sleeper) (count : ℕ)
+    (stations : ℕ → Option StationView) (s : ℕ) (g : Sleeper → Sleeper) →
     StationsStand members sleepers count stations → s < count →
-    ((m : Member) (x : StationView) → IsOfView m x → IsOfView m (g x)) →
-    ((x : StationView) → IsSleeperOf (sleeper sleepers s) x → IsSleeperOf z (g x)) →
-    StationsStand members (with_sleeper sleepers s z) count (upd stations s (option_map g (stations s)))
-sleeper_changed members sleepers count stations s z g h low keeps sleeps =
+    StationsStand members (with_sleeper sleepers s (g (sleeper sleepers s))) count
+    (upd stations s (option_map (on_sleeper g) (stations s)))
+sleeper_changed members sleepers count stations s g h low =
+    let f : StationView → StationView = on_sleeper g in
+    let z : Sleeper = g (sleeper sleepers s) in
     subst (λ (ms : List (Option Member)). StationsStand ms (with_sleeper sleepers s z) count
-    (upd stations s (option_map g (stations s)))) (set-get_or members s None)
-    (station_replaced members sleepers count stations s (member members s) z (option_map g (stations s)) h low
-    (subst (λ (m : Option Member). AreBoth IsOfView m (option_map g (stations s)))
-    (none_mapped (member members s)) (both_mapped (λ m. m) g keeps (member members s) (stations s)
-    (h.live s)))
-    (sleeps_mapped (sleeper sleepers s) z g sleeps (stations s) (h.rests s)))
+    (upd stations s (option_map f (stations s)))) (set-get_or members s None)
+    (station_replaced members sleepers count stations s (member members s) z (option_map f (stations s)) h low
+    (subst (λ (m : Option Member). AreBoth IsOfView m (option_map f (stations s)))
+    (none_mapped (member members s)) (both_mapped (λ m. m) f (λ m x. resting (g x.sleeper) m x)
+    (member members s) (stations s) (h.live s)))
+    (sleeps_mapped (sleeper sleepers s) z f (λ x e. ap g e) (stations s) (h.rests s)))
 
 -- ---- a member's values by class
 
@@ -193,20 +205,6 @@ receipted c air m x h = record {
       ∙ ap (λ (n : ℕ). updc x.received c (n + air) k) (h.received c);
 }
 
--- a member does not depend on sleep, credit and stops
-pub resting : (asleep : Bool) (credit : Option Class) (stopped : Bool) (m : Member) (x : StationView) →
-    IsOfView m x → IsOfView m (record x { asleep = asleep; credit = credit; stopped = stopped })
-resting asleep credit stopped m x h = record {
-  four = h.four;
-  rate = h.rate;
-  exponent = h.exponent;
-  ampdu = h.ampdu;
-  offloaded = h.offloaded;
-  upper = h.upper;
-  charged = h.charged;
-  received = h.received;
-}
-
 -- ---- a change of one station of the world
 
 -- a station that keeps its TIDs changes, and the member, the sleeper and the turns change with it
@@ -240,3 +238,15 @@ station_parts v w bodies s f g members sleepers turns tids seen stands changes h
       ledger = subst (LedgerStands v.inside v.tally bodies) (sym (ledger_station w s f)) p.ledger;
       frames = p.frames;
     })
+
+-- the sleeper of a station changes by g, and the station of the world by f
+pub sleeper_parts : (v : TransmitValue) (w : World) (bodies : ℕ → FrameValue) (s : ℕ) (f : Station → Station)
+    (g : Sleeper → Sleeper) → s < w.config.stations → ((x : Station) → (f x).tids ≡ x.tids) →
+    ((x : Station) → view_of (f x) ≡ on_sleeper g (view_of x)) →
+    LeavesRotas w (on_station w s f) → Parts v w bodies →
+    Parts (record v { sleepers = with_sleeper v.sleepers s (g (sleeper v.sleepers s)) }) (on_station w s f)
+    bodies
+sleeper_parts v w bodies s f g low tids seen leaves h =
+    station_parts v w bodies s f (on_sleeper g) v.members
+    (with_sleeper v.sleepers s (g (sleeper v.sleepers s))) v.sched tids seen (leaves v.sched h.others.turns)
+    (λ k. sleeper_changed v.members v.sleepers w.config.stations (roster w).stations s g k low) h

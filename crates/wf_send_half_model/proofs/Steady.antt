@@ -9,14 +9,14 @@ use Rattle.wf_frame.specs.declared.settings.Config.{Config}
 use Rattle.wf_frame.specs.declared.notes.AskedRate.{AskedRate}
 use Rattle.wf_frame.specs.declared.notes.Note.{Note}
 use Rattle.wf_frame.specs.declared.notes.Note.TheVariants.{Enqueue, Asked}
-use Rattle.wf_frame.specs.declared.notes.Ask.TheVariants.{Join, Leave, Rate, Tick, Pull, Arrive, Answer, Done, Sleep, Wake, Poll, Rx, Reap, Ampdu, Stop, Start, Unsent, GiveUp, Flush, Offload, Weight, Hold, Begin, Free, Cease, Group}
+use Rattle.wf_frame.specs.declared.notes.Ask.TheVariants.{Join, Leave, Rate, Tick, Pull, Arrive, Answer, Done, Sleep, Wake, Poll, Rx, Reap, Ampdu, Stop, Start, Unsent, GiveUp, Flush, Offload, Weight, Hold, Begin, Free, Cease, Group, Service}
 use Rattle.wf_frame.specs.declared.notes.Ask.TheVariants as call
 use Rattle.wf_frame.specs.Classes.{all_classes, lower_tid, upper_tid}
 use Rattle.wf_def_lists.specs.Table.{at}
 use Rattle.wf_def_rotation.specs.Rotation.{in_order}
 use Rattle.wf_def_agreement.specs.Receiver.{Receiver}
 use Rattle.wf_def_world.specs.World.{World, holds_back, Station, Share, Exchange, no_station, owed, exchange, on_station, with_station, on_tid, on_receiver, on_share, with_exchange}
-use Rattle.wf_def_world.specs.CanSend.{is_request, request_open, has_credit, is_below_aql, may_receive, is_ready}
+use Rattle.wf_def_world.specs.CanSend.{is_request, request_open, is_reachable, is_below_aql, may_receive, is_ready}
 use Rattle.wf_def_world.specs.Step.{Outcome, outcome_of, step, outcome_where_open, rate_outcome, tick_outcome, arrive_outcome, answer_outcome, unsent_outcome, give_up_outcome, rx_outcome, reap_outcome, ampdu_outcome, with_deficits_lowered, weight_outcome}
 use Rattle.wf_law_rules.proofs.Lemmas.Tables.{each_put}
 use Rattle.wf_law_runs.proofs.Common.Marks.{marked_world}
@@ -26,7 +26,9 @@ use Rattle.wf_law_runs.proofs.Deficits.Kept.{IsKept}
 use Rattle.wf_law_runs.proofs.Deficits.KeptStep.{IsFound, books_arrived, books_answered, books_marked}
 use Rattle.wf_queue_flows_refines.specs.Standing.{Part, flows_part}
 use Rattle.wf_queue_flows_refines.proofs.Leaves.{station_alone, receiver_alone, exchange_alone}
-use Rattle.wf_send_half_model.specs.Standing.{IsReached}
+use Rattle.wf_send_parts.specs.declared.stations.sleepers.Sleeper.{Sleeper}
+use Rattle.wf_send_parts.specs.Sleepers.{is_reachable_in}
+use Rattle.wf_send_half_model.specs.Standing.{sleeper_of, IsReached}
 use Rattle.wf_send_half_model.specs.Readiness.{leaves_ready}
 use Rattle.wf_send_half_model.specs.Views.{Agreements, agreements}
 use Rattle.wf_send_half_model.proofs.Views.{agreements_station, agreements_receiver}
@@ -62,27 +64,22 @@ pub steady_ready : (w v : World) → IsSteady w v → (c : Class) (s : ℕ) → 
 steady_ready w v h c s = ready_same_by w v c s (ap (λ (a : Agreements). a.live s) h.agreements)
     (h.receives s c) (steady_tid w v h s (lower_tid c)) (steady_tid w v h s (upper_tid c))
 
--- ---- a station changes, but not its TIDs, its sleep, its credit or its stop
+-- ---- a station changes, but not its TIDs, its power save or its stop
 
 -- whether a station may receive in a class, if its airtime in flight is below the limit, or not
 abbrev pub receives : Class → Option Station → Bool → Bool
 receives c o below = not (unwrap_or o no_station).stopped
-    && ((not (unwrap_or o no_station).asleep || has_credit (unwrap_or o no_station).credit c) && below)
+    && (is_reachable (unwrap_or o no_station) c && below)
 
--- the change does not affect sleep, credit and stop
-pub record KeepsSleep (f : Station → Station) : Type 0 where
-  pub asleep : (x : Station) → (f x).asleep ≡ x.asleep
-  pub credit : (x : Station) → (f x).credit ≡ x.credit
-  pub stopped : (x : Station) → (f x).stopped ≡ x.stopped
+-- the change does not affect power save and stop
+abbrev pub KeepsSleep : (Station → Station) → Type 0
+KeepsSleep f = (x : Station) → sleeper_of (f x) ≡ sleeper_of x
 
 receives_mapped : (f : Station → Station) → KeepsSleep f → (c : Class) (below : Bool) (o : Option Station) →
     receives c (option_map f o) below ≡ receives c o below
 receives_mapped f h c below None = refl
 receives_mapped f h c below (Some x) =
-    ap (λ (b : Bool). not b && ((not (f x).asleep || has_credit (f x).credit c) && below)) (h.stopped x)
-    ∙ ap₂ (λ (b : Bool) (o : Option Class). not x.stopped && ((not b || has_credit o c)
-    && below)) (h.asleep x)
-    (h.credit x)
+    ap (λ (y : Sleeper). not y.stopped && (is_reachable_in y c && below)) (h x)
 
 heard_on_station : (w : World) (i : ℕ) (f : Station → Station) → KeepsSleep f → (s : ℕ) (c : Class)
     (below : Bool) →
@@ -114,8 +111,7 @@ steady_rated w i rate = record {
   part = station_alone w i _ (λ x. refl);
   agreements = agreements_station w i _ (λ x. refl);
   requests = requests_on_station w i _;
-  receives = receives_on_station w i _
-      (record { asleep = λ x. refl; credit = λ x. refl; stopped = λ x. refl });
+  receives = receives_on_station w i _ (λ x. refl);
 }
 
 steady_stated : (w : World) (i octets : ℕ) → IsSteady w (ampdu_outcome w i octets).world
@@ -123,8 +119,7 @@ steady_stated w i octets = record {
   part = station_alone w i _ (λ x. refl);
   agreements = agreements_station w i _ (λ x. refl);
   requests = requests_on_station w i _;
-  receives = receives_on_station w i _
-      (record { asleep = λ x. refl; credit = λ x. refl; stopped = λ x. refl });
+  receives = receives_on_station w i _ (λ x. refl);
 }
 
 steady_received : (w : World) (i : ℕ) (d : Class) (air : ℕ) → IsSteady w (rx_outcome w i d air).world
@@ -133,8 +128,7 @@ steady_received w i d air = record {
   part = station_alone w i _ (λ x. refl);
   agreements = agreements_station w i _ (λ x. refl);
   requests = requests_on_station w i _;
-  receives = receives_on_station w i _
-      (record { asleep = λ x. refl; credit = λ x. refl; stopped = λ x. refl });
+  receives = receives_on_station w i _ (λ x. refl);
 }
 
 steady_shared : (w : World) (i : ℕ) (d : Class) (f : Share → Share) → IsSteady w (on_share w i d f)
@@ -143,8 +137,7 @@ steady_shared w i d f = record {
   part = station_alone w i _ (λ x. refl);
   agreements = agreements_station w i _ (λ x. refl);
   requests = requests_on_station w i _;
-  receives = receives_on_station w i _
-      (record { asleep = λ x. refl; credit = λ x. refl; stopped = λ x. refl });
+  receives = receives_on_station w i _ (λ x. refl);
 }
 
 steady_lowered : (cs : List Class) (w : World) (i : ℕ) → IsSteady w (with_deficits_lowered w i cs)
@@ -158,8 +151,7 @@ steady_weighed w i weight = steady_then w _ _ (record {
   part = station_alone w i _ (λ x. refl);
   agreements = agreements_station w i _ (λ x. refl);
   requests = requests_on_station w i _;
-  receives = receives_on_station w i _
-      (record { asleep = λ x. refl; credit = λ x. refl; stopped = λ x. refl });
+  receives = receives_on_station w i _ (λ x. refl);
 }) (steady_lowered all_classes _ i)
 
 -- ---- an open exchange is marked
@@ -189,8 +181,7 @@ heard_marked w z s c below = refl
 heard_receiver : (w : World) (i t : ℕ) (f : Receiver → Receiver) (s : ℕ) (c : Class) (below : Bool) →
     receives c (at None (on_receiver w i t f).stations s) below ≡ receives c (at None w.stations s) below
 unfolding on_receiver on_tid
-heard_receiver w i t f = heard_on_station w i _
-    (record { asleep = λ x. refl; credit = λ x. refl; stopped = λ x. refl })
+heard_receiver w i t f = heard_on_station w i _ (λ x. refl)
 
 -- the same books have the same airtime in flight
 same_below : (w v : World) → books v ≡ books w → (s : ℕ) (c : Class) → is_below_aql v s c ≡ is_below_aql w s c
@@ -294,6 +285,7 @@ steady_done (Asked (Sleep i)) w r h c s = absurd (cc h)
 steady_done (Asked (Ampdu i octets)) w r h c s = steady_ready w _ (steady_stated w i octets) c s
 steady_done (Asked (Stop i)) w r h c s = absurd (cc h)
 steady_done (Asked (Start i)) w r h c s = absurd (cc h)
+steady_done (Asked (Service ask)) w r h c s = absurd (cc h)
 steady_done (Asked (Unsent e i)) w r h c s = steady_ready w
     (outcome_where_open w (exchange w e) (λ x. unsent_outcome w x i)).world
     (steady_open (exchange w e) w e (λ x. unsent_outcome w x i) refl

@@ -9,9 +9,12 @@ use Rattle.wf_frame.specs.declared.classes.Class.{Class}
 use Rattle.wf_frame.specs.declared.notes.AskedRate.{AskedRate}
 use Rattle.wf_frame.specs.declared.notes.Note.TheVariants.{Asked}
 use Rattle.wf_frame.specs.declared.notes.Ask.TheVariants as call
-use Rattle.wf_frame.specs.declared.notes.Ask.TheVariants.{Join, Offload, Rate, Tick, Arrive, Answer, Sleep, Wake, Poll, Reap, Ampdu, Stop, Start}
+use Rattle.wf_frame.specs.declared.notes.Ask.TheVariants.{Join, Offload, Rate, Tick, Arrive, Answer, Sleep, Wake, Poll, Reap, Ampdu, Stop, Start, Service}
+use Rattle.wf_frame.specs.declared.notes.ServiceAsk.{ServiceAsk}
+use Rattle.wf_frame.specs.declared.notes.ServiceAsk.TheVariants as service
 use Rattle.wf_frame.specs.declared.notes.Refusal.{Refusal}
 use Rattle.wf_frame.specs.declared.notes.ReplyNote.{ReplyNote}
+use Rattle.wf_frame.specs.declared.notes.ReplyNote.TheVariants as reply
 use Rattle.wf_frame.specs.declared.notes.ReplyNote.TheVariants.{Joined, Set, Now, Slept, Woken, Polled, Reaped, Stopped, Started}
 use Rattle.wf_frame.specs.Classes.{lower_tid, upper_tid}
 use Rattle.wf_frame.specs.Frames.{FrameValue}
@@ -21,7 +24,8 @@ use Rattle.wf_def_world.specs.Rates.{rate_asked}
 use Rattle.wf_def_world.specs.World.{World, Exchange, rotation, is_live, exchange, on_station, on_tid, on_receiver, on_share, with_station, with_exchange}
 use Rattle.wf_def_world.specs.CanSend.{is_ready, is_debtor, is_to_list, with_listings_of}
 use Rattle.wf_def_world.specs.Refusals.{refusal, refusals}
-use Rattle.wf_def_world.specs.Step.{outcome_of, outcome_where_open, station_of, after_refusal, judged_outcome, step, arrive_outcome, answer_outcome, class_to_send, tick_outcome, rate_outcome, sleep_outcome, wake_outcome, poll_outcome, rx_outcome, plain_window, join_outcome, offload_outcome, plain_outcome, ampdu_outcome}
+use Rattle.wf_def_world.specs.Service.{station_served}
+use Rattle.wf_def_world.specs.Step.{outcome_of, outcome_where_open, station_of, after_refusal, judged_outcome, step, arrive_outcome, answer_outcome, class_to_send, service_answer, tick_outcome, rate_outcome, sleep_outcome, wake_outcome, poll_outcome, rx_outcome, plain_window, join_outcome, offload_outcome, plain_outcome, ampdu_outcome}
 use Rattle.wf_law_rules.proofs.Lemmas.Numbers.{either}
 use Rattle.wf_law_runs.proofs.Deficits.KeptStep.{NoRow, no_row}
 use Rattle.wf_law_runs.proofs.Deficits.Law.{deficits}
@@ -36,10 +40,10 @@ use Rattle.wf_send_parts.specs.Members.{member, on_member, with_rate, with_ampdu
 use Rattle.wf_send_parts.specs.Sleepers.{sleeper, with_sleeper, woken}
 use Rattle.wf_send_half_model.specs.Half.{TransmitValue, can_send_of, may_receive_of, is_to_list_of}
 use Rattle.wf_send_half_model.specs.Standing.{Parts, IsReached, StandsFor, Meets}
-use Rattle.wf_send_half_model.specs.Changes.{after_listing, AreReset, AreSet, after_admission}
+use Rattle.wf_send_half_model.specs.Changes.{after_listing, AreReset, AreSet, after_admission, after_service_call}
 use Rattle.wf_send_half_model.proofs.Reached.{by_law, reached_step, rises, owes_nothing}
 use Rattle.wf_send_half_model.proofs.Readers.{to_list_same}
-use Rattle.wf_send_half_model.proofs.Calls.{tick_parts, rate_parts, sleep_parts, wake_parts, poll_parts, reap_parts, ampdu_parts, stop_parts, start_parts}
+use Rattle.wf_send_half_model.proofs.Calls.{tick_parts, rate_parts, sleep_parts, wake_parts, poll_parts, reap_parts, ampdu_parts, stop_parts, start_parts, service_parts}
 use Rattle.wf_send_half_model.proofs.Joins.{admitted, join_parts, plain_parts, offload_parts}
 use Rattle.wf_send_half_model.proofs.Meets.{listed_none, listed_meets, unlisted_meets, idle_meets}
 use Rattle.wf_send_half_model.proofs.Listings.{nobody_new}
@@ -121,6 +125,16 @@ rate_reply w s rate = refl
 
 pub below : (w : World) (s : ℕ) → nat_le w.config.stations s ≡ false → s < w.config.stations
 below w s e = leb-false _ _ e
+
+-- a call about service periods that is not refused has a station of the machine
+served_below : (w : World) (ask : ServiceAsk) → refusal w (Asked (Service ask)) ≡ None →
+    station_served ask < w.config.stations
+served_below w (service.Set s classes most) done =
+    below w s (no_row (refusals w (Asked (Service (service.Set s classes most)))) done).0
+served_below w (service.Trigger s) done =
+    below w s (no_row (refusals w (Asked (Service (service.Trigger s)))) done).0
+served_below w (service.End s) done =
+    below w s (no_row (refusals w (Asked (Service (service.End s)))) done).0
 
 module _ (v : TransmitValue) (w : World) (bodies : ℕ → FrameValue) (h : StandsFor v w bodies) where
   sized : (s : ℕ) → s < w.config.stations → s < length v.members
@@ -242,6 +256,14 @@ module _ (v : TransmitValue) (w : World) (bodies : ℕ → FrameValue) (h : Stan
             (record (sleeper v.sleepers s) { stopped = true });
       }) w bodies (Asked (Stop s)) h.reached tt tt done
       (stop_parts v w bodies s (below w s rows.0) h.parts) s refl
+
+  pub service_meets : (ask : ServiceAsk) → refusal w (Asked (Service ask)) ≡ None →
+      Meets w bodies (Asked (Service ask)) (after_listing (after_service_call v ask) (station_served ask))
+      (reply.Service (service_answer w ask))
+  unfolding outcome_of
+  service_meets ask done =
+      listed_meets (after_service_call v ask) w bodies (Asked (Service ask)) h.reached tt tt done
+      (service_parts v w bodies ask (served_below w ask done) h.parts) (station_served ask) refl
 
   pub start_meets : (s : ℕ) → refusal w (Asked (Start s)) ≡ None →
       Meets w bodies (Asked (Start s)) (after_listing

@@ -2,6 +2,8 @@
 use Rattle.std.specs.Prelude.{◌≡◌, ◌≢◌, ◌<◌, ℕ, ◌+◌, ◌*◌, max, if◌then◌else◌, Bool, List, length, set, Some}
 use Rattle.wf_frame.specs.Classes.{all_classes, tid_number}
 use Rattle.wf_frame.specs.declared.classes.Class.{Class}
+use Rattle.wf_frame.specs.declared.notes.ServiceAsk.{ServiceAsk}
+use Rattle.wf_def_world.specs.Service.{station_served}
 use Rattle.wf_frame.specs.Frames.{FrameValue}
 use Rattle.wf_def_agreement.specs.Session.{Session, new_session, start_of}
 use Rattle.wf_send_parts.specs.Tally.{one_accepted}
@@ -11,7 +13,7 @@ use Rattle.wf_sched_refines.specs.Standing.{everywhere, with_listed, with_listed
 use Rattle.wf_send_parts.specs.Members.{new_member}
 use Rattle.wf_send_parts.specs.declared.stations.modes.Mode.{Mode}
 use Rattle.wf_send_parts.specs.Modes.{mode_of, with_mode_of}
-use Rattle.wf_send_parts.specs.Sleepers.{awake, with_sleeper}
+use Rattle.wf_send_parts.specs.Sleepers.{awake, sleeper, with_sleeper, sleeper_after}
 use Rattle.wf_send_parts.specs.Window.{WindowValue, WindowStandsFor}
 use Rattle.wf_send_parts.specs.Windows.{WindowsHaveRoom, window_of, with_window}
 use Rattle.wf_send_half_model.specs.Counting.{with_overlimit}
@@ -80,6 +82,12 @@ after_admission v windows modes s exponent weight offloaded =
       members = set v.members s (Some (new_member exponent offloaded));
       sleepers = with_sleeper v.sleepers s awake;
     }) s
+
+-- the half after a call about the service periods of a station, before the station is listed
+abbrev pub after_service_call : TransmitValue → ServiceAsk → TransmitValue
+after_service_call v ask =
+    let s : ℕ = station_served ask in
+    record v { sleepers = with_sleeper v.sleepers s (sleeper_after ask (sleeper v.sleepers s)) }
 
 -- station s has this weight: its quantum in each class becomes another one, and each of its deficits is
 -- lowered to what the quantum allows

@@ -8,7 +8,6 @@ use Rattle.wf_frame.specs.Classes.{lower_tid, upper_tid, tid_number}
 use Rattle.wf_frame.specs.Frames.{FrameValue}
 use Rattle.wf_def_lists.specs.Table.{upto}
 use Rattle.wf_def_world.specs.World.{has_agreement, holds_back}
-use Rattle.wf_def_world.specs.CanSend.{has_credit}
 use Rattle.wf_def_world.specs.Exchanges.{longest_computed}
 use Rattle.wf_queue_flows.specs.Flows.{FlowsValue, empty_flows, frames_of_tid}
 use Rattle.wf_sched.specs.ClassRotas.{SchedValue, deficit, new_scheduler as empty_sched}
@@ -24,7 +23,7 @@ use Rattle.wf_send_parts.specs.declared.stations.modes.Mode.{Mode}
 use Rattle.wf_send_parts.specs.declared.stations.modes.Mode.TheVariants.{Plain}
 use Rattle.wf_send_parts.specs.Modes.{as_mode, mode_of}
 use Rattle.wf_send_parts.specs.declared.stations.sleepers.Sleeper.{Sleeper}
-use Rattle.wf_send_parts.specs.Sleepers.{awake, sleeper}
+use Rattle.wf_send_parts.specs.Sleepers.{awake, sleeper, is_reachable_in}
 use Rattle.wf_send_parts.specs.Tally.{Counts, no_counts}
 use Rattle.wf_send_parts.specs.Group.{GroupValue, no_group_frames}
 
@@ -98,12 +97,11 @@ can_send_of v s t =
 abbrev pub is_below_aql_of : TransmitValue → ℕ → Class → Bool
 is_below_aql_of v s c = (v.config.aql == 0) || nat_lt (airtime_to v.opened s c) v.config.aql
 
--- whether a station may receive in a class: it is not stopped, it is awake or has a credit for the class, and
--- its airtime in flight is below the limit
+-- whether a station may receive in a class: it is not stopped, it receives there now, and its airtime in
+-- flight is below the limit
 abbrev pub may_receive_of : TransmitValue → ℕ → Class → Bool
 may_receive_of v s c = not (sleeper v.sleepers s).stopped
-    && ((not (sleeper v.sleepers s).asleep || has_credit (sleeper v.sleepers s).credit c)
-    && is_below_aql_of v s c)
+    && (is_reachable_in (sleeper v.sleepers s) c && is_below_aql_of v s c)
 
 -- whether a station is ready in a class: it is live, one of its two TIDs of the class can send, and it may
 -- receive in the class

@@ -4,6 +4,8 @@ use Rattle.wf_frame.specs.declared.classes.Class.{Class}
 use Rattle.wf_frame.specs.declared.notes.Ask.TheVariants.{Rate, Tick, Arrive, Answer, Rx, Reap, Ampdu, Unsent, GiveUp, Weight, Group}
 use Rattle.wf_frame.specs.declared.notes.Note.{Note}
 use Rattle.wf_frame.specs.declared.notes.Note.TheVariants.{Enqueue, Asked}
+use Rattle.wf_frame.specs.declared.notes.ReplyNote.{ReplyNote}
+use Rattle.wf_frame.specs.declared.notes.ReplyNote.TheVariants.{Send}
 use Rattle.wf_frame.specs.Classes.{lower_tid, upper_tid}
 use Rattle.wf_def_rotation.specs.Rotation.{has_key}
 use Rattle.wf_def_world.specs.World.{World, rotation}
@@ -32,6 +34,12 @@ leaves_ready (Asked (GiveUp exchange index)) = true
 leaves_ready (Asked (Weight station weight)) = true
 leaves_ready (Asked (Group ask)) = true
 leaves_ready _ = false
+
+-- whether the reply of a pull says that its exchange ends a service period, so that its station may be ready
+-- in fewer classes
+abbrev pub ends_service : ReplyNote → Bool
+ends_service (Send exchange station tid air part more eosp) = eosp
+ends_service _ = false
 
 -- each class in which a station belongs on a list lists it, except perhaps class c
 abbrev pub IsListedBut : World → ℕ → Class → Type 0

@@ -55,6 +55,7 @@ open_of x = record {
   charge = x.charge;
   sending = sending_of x.content;
   more = x.more;
+  eosp = x.eosp;
   batch = x.batch;
   plain = x.plain;
   unsent = x.unsent;
@@ -81,20 +82,28 @@ pub record IsMember (m : Member) (x : Station) : Type 0 where
   pub charged : (c : Class) → charged_in m c ≡ (share_in x c).charged
   pub received : (c : Class) → received_in m c ≡ (share_in x c).received
 
+-- what the half keeps of the power save of a station, and of its stop
+abbrev pub sleeper_of : Station → Sleeper
+sleeper_of x = record {
+  asleep = x.asleep;
+  credit = x.credit;
+  stopped = x.stopped;
+  delivery = x.delivery;
+  most = x.most;
+  service = x.service;
+}
+
 -- both values are present and R holds of them, or both are absent
 abbrev pub AreBoth : {X Y : Type 0} → (X → Y → Type 0) → Option X → Option Y → Type 0
 AreBoth R None None = Unit {0}
 AreBoth R (Some x) (Some y) = R x y
 AreBoth R _ _ = ⊥
 
--- the members are the live stations, and the sleepers have the sleep and the credit of each, and whether it
--- is stopped
+-- the members are the live stations, and the sleepers have the power save of each, and whether it is stopped
 pub record HasStations (members : List (Option Member)) (sleepers : List Sleeper) (w : World) : Type 0 where
   pub sized : (length members ≡ w.config.stations) × (length sleepers ≡ w.config.stations)
   pub live : (s : ℕ) → AreBoth IsMember (member members s) (at None w.stations s)
-  pub asleep : (s : ℕ) → is_live w s ≡ true → (sleeper sleepers s).asleep ≡ (station w s).asleep
-  pub credit : (s : ℕ) → is_live w s ≡ true → (sleeper sleepers s).credit ≡ (station w s).credit
-  pub stopped : (s : ℕ) → is_live w s ≡ true → (sleeper sleepers s).stopped ≡ (station w s).stopped
+  pub rests : (s : ℕ) → is_live w s ≡ true → sleeper sleepers s ≡ sleeper_of (station w s)
 
 -- the modes are those of the TIDs of each live station
 pub record HasModes (modes : List Mode) (w : World) : Type 0 where

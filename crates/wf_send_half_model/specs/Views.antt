@@ -12,9 +12,10 @@ use Rattle.wf_def_world.specs.Group.{GroupState}
 use Rattle.wf_def_world.specs.World.{World, Mode, Station, Share, is_live, tid_of, session, inside, accepted_count, frame}
 use Rattle.wf_send_parts.specs.Tally.{Counts}
 use Rattle.wf_send_parts.specs.declared.exchanges.opened.Open.{Open}
+use Rattle.wf_send_parts.specs.declared.stations.sleepers.Sleeper.{Sleeper}
 use Rattle.wf_queue_flows_refines.specs.Standing.{flows_part}
 use Rattle.wf_sched_refines.specs.Standing.{share_in}
-use Rattle.wf_send_half_model.specs.Standing.{open_of, counts_in}
+use Rattle.wf_send_half_model.specs.Standing.{open_of, sleeper_of, counts_in}
 
 -- the windows and the modes read which stations are live, and of each TID the originator's side and the mode
 pub record Agreements : Type 0 where
@@ -37,9 +38,7 @@ pub record StationView : Type 0 where
   pub exponent : ℕ
   pub ampdu : Option ℕ
   pub offloaded : Bool
-  pub stopped : Bool
-  pub asleep : Bool
-  pub credit : Option Class
+  pub sleeper : Sleeper
   pub upper : Class → Bool
   pub charged : Class → ℕ
   pub received : Class → ℕ
@@ -50,9 +49,7 @@ view_of x = record {
   exponent = x.exponent;
   ampdu = x.ampdu;
   offloaded = x.offloaded;
-  stopped = x.stopped;
-  asleep = x.asleep;
-  credit = x.credit;
+  sleeper = sleeper_of x;
   upper = λ c. (share_in x c).upper;
   charged = λ c. (share_in x c).charged;
   received = λ c. (share_in x c).received;

@@ -11,7 +11,7 @@
 //! half has: those that were accepted and are not reaped, each with its body.
 #![tactic(auto)]
 
-ghost use Rattle.std.specs.Prelude.{◌≡◌, ◌<◌, ◌≤◌, ℕ, suc, ◌+◌, ◌-◌, ◌==◌, ◌||◌, ◌++◌, pos, ◌+ℤ◌, ◌-ℤ◌, Bool, true, false, List, [], ◌∷◌, Some, None, is_some, option_map, map, find, count_by, length, max, unwrap_or, ◌%◌, ◌&&◌, nat_lt, nat_le, if◌then◌else◌, All, Option, IfSome};
+ghost use Rattle.std.specs.Prelude.{◌≡◌, ◌<◌, ◌≤◌, ℕ, suc, ◌+◌, ◌-◌, ◌==◌, ◌||◌, ◌++◌, pos, ◌+ℤ◌, ◌-ℤ◌, Bool, true, false, List, [], ◌∷◌, Some, None, is_some, option_map, map, find, count_by, length, max, unwrap_or, ◌%◌, ◌&&◌, nat_le, All, Option, IfSome};
 ghost use Rattle.std.specs.List.{list_any};
 ghost use Rattle.wf_frame.specs.Classes.{lower_tid, upper_tid, same_class, class_of, tid_number};
 ghost use Rattle.wf_frame.specs.Frames.{FrameValue, source_octets};
@@ -22,8 +22,9 @@ ghost use Rattle.wf_frame.specs.declared.classes.Fate.{Fate};
 ghost use Rattle.wf_frame.specs.declared.classes.Fate.TheVariants.{Held, Dropped};
 ghost use Rattle.wf_frame.specs.declared.classes.Cause.{Cause};
 ghost use Rattle.wf_frame.specs.declared.classes.Cause.TheVariants.{Flushed, Ended};
-ghost use Rattle.wf_frame.specs.declared.notes.Ask.TheVariants.{Done, Join, Offload, Weight, Leave, Pull, Rate, Tick, Arrive, Answer, Sleep, Wake, Poll, Rx, Reap, Ampdu, Stop, Start, Unsent, GiveUp, Flush, Hold, Begin, Free, Cease, Group};
+ghost use Rattle.wf_frame.specs.declared.notes.Ask.TheVariants.{Done, Join, Offload, Weight, Leave, Pull, Rate, Tick, Arrive, Answer, Sleep, Wake, Poll, Rx, Reap, Ampdu, Stop, Start, Unsent, GiveUp, Flush, Hold, Begin, Free, Cease, Group, Service};
 ghost use Rattle.wf_frame.specs.declared.notes.GroupAsk.{GroupAsk};
+ghost use Rattle.wf_frame.specs.declared.notes.ServiceAsk.{ServiceAsk};
 ghost use Rattle.wf_frame.specs.declared.notes.Ask.TheVariants as call;
 ghost use Rattle.wf_frame.specs.declared.notes.AskedRate.{AskedRate};
 ghost use Rattle.wf_frame.specs.declared.notes.Limits.{Limits};
@@ -35,7 +36,7 @@ ghost use Rattle.wf_frame.specs.declared.notes.ReplyNote.TheVariants.{Accepted, 
 ghost use Rattle.wf_frame.specs.declared.notes.ReplyNote.TheVariants as reply;
 ghost use Rattle.wf_frame.specs.declared.settings.Config.{Config};
 ghost use Rattle.wf_frame.specs.declared.notes.Part.TheVariants.{Request as Starts};
-ghost use Rattle.wf_def_air.specs.Airtime.{Rate as RateValue, is_single, request_charge};
+ghost use Rattle.wf_def_air.specs.Airtime.{Rate as RateValue, request_charge};
 ghost use Rattle.wf_def_codel.specs.Codel.{Params};
 ghost use Rattle.wf_def_codel.specs.Parameters.{params_at};
 ghost use Rattle.wf_def_air.specs.Fit.{fits, most_octets};
@@ -49,12 +50,13 @@ ghost use Rattle.wf_def_rotation.specs.Rotation.{Rotation, has_key};
 ghost use Rattle.wf_def_agreement.specs.Session.{Session, State, End, after_end, after_flush as session_flushed, slot, start_of, next_number, request_due, with_state, is_acknowledged, is_waiting, is_failed, with_number_given};
 ghost use Rattle.wf_def_world.specs.Rates.{rate_asked};
 ghost use Rattle.wf_def_world.specs.Group.{group_answer};
-ghost use Rattle.wf_def_world.specs.World.{World, is_any_asleep, Bounds, Station, Tid, Share, Queue, Exchange, Mpdu, frame, accepted_count, is_held, is_offloaded, is_agreed, is_plain, is_held_back, codel_params, with_frame_finished, with_frames_finished, Frames, Request, opening, without_exchange, is_live, session, share, rotation, exchange, owed_by_all, pending_air, on_station, on_tid, on_session, on_receiver, on_share, on_queue, with_queues, with_rotation, is_wide};
+ghost use Rattle.wf_def_world.specs.Service.{station_served};
+ghost use Rattle.wf_def_world.specs.World.{World, is_any_asleep, Bounds, Station, Tid, Share, Queue, Exchange, Mpdu, frame, accepted_count, is_held, is_offloaded, is_agreed, is_plain, is_held_back, codel_params, with_frame_finished, with_frames_finished, Frames, Request, opening, without_exchange, is_live, station, session, share, rotation, exchange, owed_by_all, pending_air, on_station, on_tid, on_session, on_receiver, on_share, on_queue, with_queues, with_rotation, is_wide};
 ghost use Rattle.wf_def_world.specs.FlowQueues.{frames_queued as world_queued, after_limit, dropped_for_limit as dropped_for_limit_in};
 ghost use Rattle.wf_def_world.specs.CanSend.{request_open, has_waiting, can_give, can_send, can_send_in, is_ready, is_debtor, is_to_list, with_listings_of};
-ghost use Rattle.wf_def_world.specs.Exchanges.{Aggregate, Prepared, picked_station, sending_tid, after_tid_turn, aggregate_of, prepared_data, mpdus_of, no_mpdu, numbers_unsent, numbers_given_up, end_of, is_far, charge_of, after_charge, with_settled, with_all_settled, count_in, part_of, caught_up_if_plain, lens_of, mpdu_of, aggregate_charge};
+ghost use Rattle.wf_def_world.specs.Exchanges.{Aggregate, Prepared, picked_station, sending_tid, after_tid_turn, aggregate_of, prepared_data, mpdus_of, no_mpdu, numbers_unsent, numbers_given_up, end_of, is_far, charge_of, after_charge, with_settled, with_all_settled, count_in, part_of, caught_up_if_plain, lens_of, mpdu_of, aggregate_charge, has_more_in};
 ghost use Rattle.wf_def_world.specs.Refusals.{has_live_credit, refusal, is_at_aql_total, open_of_station, open_of_tid, open_of_class, numbers_waiting, queued_in_class, can_send_any};
-ghost use Rattle.wf_def_world.specs.Step.{outcome_of, concerned_station, class_to_send, step, plain_window, done_outcome, rx_outcome, send_outcome};
+ghost use Rattle.wf_def_world.specs.Step.{outcome_of, concerned_station, first_to_send, class_to_send, service_answer, step, plain_window, done_outcome, rx_outcome, send_outcome};
 ghost use Rattle.wf_law_runs.specs.Queues.{HasLength, IsAtMost};
 ghost use Rattle.wf_law_runs.specs.Rotations.{NoneReady};
 ghost use Rattle.wf_send_parts.specs.Tally.{held_in, settled_as, many_settled_as};
@@ -85,17 +87,17 @@ ghost use Rattle.wf_send_parts.specs.declared.stations.members.Member.{Member};
 ghost use Rattle.wf_send_parts.specs.declared.stations.modes.Mode.{Mode};
 ghost use Rattle.wf_send_parts.specs.declared.stations.modes.Mode.TheVariants.{OnHold, Agreed};
 ghost use Rattle.wf_send_half_model.specs.Half.{TransmitValue, opening_half, some_wait, is_agreed_of, is_plain_of, is_held_back_of, can_give_of, can_send_of, has_live_credit_of, is_ready_of, pending_air_of, is_to_list_of, is_any_asleep_of, is_ahead_of};
-ghost use Rattle.wf_send_half_model.specs.Standing.{open_of, counts_in, HasWindows, Parts, IsReached, StandsFor, Meets, sending_of, numbers_on_air};
-ghost use Rattle.wf_send_half_model.specs.Changes.{after_listing, after_listing_in, AreReset, AreSet, after_mode, after_change, session_resized, after_enqueue, after_admission, after_weight};
+ghost use Rattle.wf_send_half_model.specs.Standing.{open_of, sleeper_of, counts_in, HasWindows, Parts, IsReached, StandsFor, Meets, sending_of, numbers_on_air};
+ghost use Rattle.wf_send_half_model.specs.Changes.{after_listing, after_listing_in, AreReset, AreSet, after_mode, after_change, session_resized, after_enqueue, after_admission, after_service_call, after_weight};
 ghost use Rattle.wf_send_half_model.specs.Counting.{with_overlimit};
 ghost use Rattle.wf_send_half_model.specs.Ending.{after_close, after_finish, after_answer, is_sent_once, IsEnding, state_left};
 ghost use Rattle.wf_send_half_model.specs.Leaving.{after_expelled, after_tid_purged, after_leave, IsLeaving, IsExpelling, IsExpelled};
 ghost use Rattle.wf_send_half_model.specs.Flushing.{IsFlushing, HasNumbersFlushed, with_queues_flushed, released_at_cease};
 ghost use Rattle.wf_send_half_model.specs.Marking.{MarksFit, after_mark, with_transmission_unsent};
-ghost use Rattle.wf_send_half_model.specs.Pulling.{sending_tid_of, after_turn, is_wide_of, open_next, after_sending};
+ghost use Rattle.wf_send_half_model.specs.Pulling.{sending_tid_of, after_turn, is_wide_of, has_more_in_of, frames_allowed_of, open_next, after_sending};
 ghost use Rattle.wf_send_half_model.specs.Filling.{after_pick_within, AreWaiting, IsTakingOff, IsUnderway, with_one_fresh, IsFilling, IsFilled, after_giving, fresh_mpdu, room_for, charge_in, IsToFill, IsChoosing, IsTurned};
 ghost use Rattle.wf_send_half_model.specs.Views.{agreements, roster, ledger, HasSameViews, KeepsView, KeepsSums};
-ghost use Rattle.wf_send_half_model.specs.Readiness.{loses_in, leaves_ready, IsListedBut};
+ghost use Rattle.wf_send_half_model.specs.Readiness.{loses_in, leaves_ready, ends_service, IsListedBut};
 
 pub mod bodies;
 
@@ -221,15 +223,19 @@ pub fn the_readers_agree()
         frames_of_tid v.flows (tid_number s (lower_tid c)) + frames_of_tid v.flows
         (tid_number s (upper_tid c)) ≡ queued_in_class w s c }
     ensures any_tid { (v : TransmitValue) (w : World) (bodies : ℕ → FrameValue) (s : ℕ) → Parts v w bodies →
-        is_live w s ≡ true →
-        list_any (can_send_of v s) (upto 8) ≡ can_send_any w s }
+        is_live w s ≡ true → (p : Class → Bool) →
+        list_any (λ t. p (class_of t) && can_send_of v s t) (upto 8) ≡ can_send_any w s p }
     ensures live_credit { (v : TransmitValue) (w : World) (bodies : ℕ → FrameValue) (s : ℕ) →
         Parts v w bodies → is_live w s ≡ true →
         has_live_credit_of v s ≡ has_live_credit w s }
-    ensures polled { (v : TransmitValue) (w : World) (bodies : ℕ → FrameValue) (s : ℕ) → Parts v w bodies →
-        is_live w s ≡ true →
-        unwrap_or (find (λ c. can_send_of v s (lower_tid c) || can_send_of v s (upper_tid c))
-        (Vo ∷ Vi ∷ Be ∷ [])) Bk ≡ class_to_send w s }
+    ensures first { (v : TransmitValue) (w : World) (bodies : ℕ → FrameValue) (s : ℕ) → Parts v w bodies →
+        is_live w s ≡ true → (p : Class → Bool) →
+        unwrap_or (find (λ c. p c && (can_send_of v s (lower_tid c) || can_send_of v s (upper_tid c)))
+        (Vo ∷ Vi ∷ Be ∷ [])) Bk ≡ first_to_send w s p }
+    ensures power_save { (v : TransmitValue) (w : World) (bodies : ℕ → FrameValue) (s : ℕ) →
+        Parts v w bodies → is_live w s ≡ true → sleeper v.sleepers s ≡ sleeper_of (station w s) }
+    ensures more { (v : TransmitValue) (w : World) (bodies : ℕ → FrameValue) (s : ℕ) → Parts v w bodies →
+        is_live w s ≡ true → (p : Class → Bool) → has_more_in_of v s p ≡ has_more_in w s p }
     ensures any_asleep { (v : TransmitValue) (w : World) (bodies : ℕ → FrameValue) → Parts v w bodies →
         is_any_asleep_of v ≡ is_any_asleep w }
 {}
@@ -359,6 +365,15 @@ pub fn a_call_that_moves_no_frame()
           sleepers = with_sleeper v.sleepers s
               (record (sleeper v.sleepers s) { stopped = false });
         }) s) Started }
+{}
+
+/// A call about the service periods of a station. If the machine does not refuse it, the half in which the
+/// sleeper is changed represents the world after the step, and the reply is the step's.
+pub fn a_service_call()
+    ensures { (v : TransmitValue) (w : World) (bodies : ℕ → FrameValue) → StandsFor v w bodies →
+        (ask : ServiceAsk) → refusal w (Asked (Service ask)) ≡ None →
+        Meets w bodies (Asked (Service ask)) (after_listing (after_service_call v ask) (station_served ask))
+        (reply.Service (service_answer w ask)) }
 {}
 
 /// The calls about group frames. The half refuses them as the machine, if its queue has the room that the
@@ -859,7 +874,7 @@ pub fn a_pull_reads()
         (m : Member) → member v.members s ≡ Some m → (t : ℕ) → t < 8 → (b : Bounds) → w.bounds ≡ b →
         empty_size m.rate (record {
           octets = most_octets m.rate m.exponent m.ampdu;
-          frames = if (sleeper v.sleepers s).asleep || is_single m.rate then 1 else b.frames;
+          frames = frames_allowed_of (sleeper v.sleepers s) m.rate b;
           time = b.air;
         }) v.config.answers (is_wide_of v s t) ≡ room_for w s t }
     ensures drops { (v : TransmitValue) (w : World) (bodies : ℕ → FrameValue) (s t : ℕ) → Parts v w bodies →
@@ -896,7 +911,8 @@ pub fn an_exchange_is_sent()
     ensures reply { (v : TransmitValue) (bodies : ℕ → FrameValue) (s t : ℕ) (c : Class) (p : Prepared) →
         Parts v p.world bodies → is_live p.world s ≡ true → t < 8 →
         Send v.exchanges s t p.charge (part_of (is_offloaded_in v.members s) (is_plain_of v s t) p.content)
-        (open_next v s t c p.charge (sending_of p.content)).more ≡ (send_outcome s t c p).reply }
+        (open_next v s t c p.charge (sending_of p.content)).more
+        (open_next v s t c p.charge (sending_of p.content)).eosp ≡ (send_outcome s t c p).reply }
     ensures wide { (v : TransmitValue) (w : World) (bodies : ℕ → FrameValue) (s t : ℕ) → Parts v w bodies →
         is_live w s ≡ true → t < 8 →
         is_wide_of v s t ≡ is_wide w s t }
@@ -1068,7 +1084,8 @@ pub fn a_pull()
         Meets w bodies (Asked (Pull c l)) (after_listing_in
         (after_sending x s t c charge (Starts_at (window_of x.windows s t).start)) s c)
         (Send x.exchanges s t charge (Starts (window_of x.windows s t).start)
-        (open_next x s t c charge (Starts_at (window_of x.windows s t).start)).more) }
+        (open_next x s t c charge (Starts_at (window_of x.windows s t).start)).more
+        (open_next x s t c charge (Starts_at (window_of x.windows s t).start)).eosp) }
     ensures charge { (v : TransmitValue) (bodies : ℕ → FrameValue) (s t : ℕ) (room : AggregateSizeValue)
         (numbers : List ℕ) (a : Aggregate) →
         IsFilled v bodies s t room numbers a →
@@ -1086,13 +1103,15 @@ pub fn a_pull()
         Meets w sent (Asked (Pull c l)) (after_listing_in (after_sending x s t c charge (Data numbers)) s c)
         (Send x.exchanges s t charge
         (part_of (is_offloaded_in x.members s) (is_plain_of x s t) (Frames a.mpdus))
-        (open_next x s t c charge (Data numbers)).more) }
+        (open_next x s t c charge (Data numbers)).more
+        (open_next x s t c charge (Data numbers)).eosp) }
 {}
 
 /// Says which calls leave the readiness of a station unchanged. Each call does so for every station that it
 /// does not concern, in each class in which the limit drops none of its frames. An enqueue, a pull and a Done
 /// do so for their own station too, except in the class of the frame's TID, the pull's class, and the class
-/// of the exchange's TID. A refusal and some of the calls do so for all stations.
+/// of the exchange's TID; but a pull whose exchange ends a service period may change all classes of its
+/// station. A refusal and some of the calls do so for all stations.
 pub fn readiness_stays()
     ensures others { (w : World) (note : Note) → IsReached w → (s : ℕ) (c : Class) →
         (concerned_station w note ≡ Some s → ⊥) →
@@ -1102,7 +1121,8 @@ pub fn readiness_stays()
         (i : ℕ) (c : Class) → (i ≡ s → class_of t ≡ c → ⊥) → loses_in w (Enqueue s t flow len) i c ≡ false →
         is_ready (step w (Enqueue s t flow len)).world c i ≡ is_ready w c i }
     ensures pull { (w : World) (d : Class) (l : Limits) → IsReached w → (i : ℕ) (c : Class) →
-        ((picked_station w d).winner ≡ Some i → d ≡ c → ⊥) →
+        ((picked_station w d).winner ≡ Some i →
+        (d ≡ c → ⊥) × (ends_service (step w (Asked (Pull d l))).reply ≡ false)) →
         is_ready (step w (Asked (Pull d l))).world c i ≡ is_ready w c i }
     ensures done { (w : World) (e : ℕ) (heard : Bool) (air : Option ℕ) (x : Exchange) → IsReached w →
         exchange w e ≡ Some x →

@@ -17,6 +17,11 @@ abbrev pub transmissions_of : Sending → ℕ
 transmissions_of (Data numbers) = length numbers
 transmissions_of (Request start) = 1
 
+-- how many frames it sends, of which a request has none
+abbrev pub frames_carried : Sending → ℕ
+frames_carried (Data numbers) = length numbers
+frames_carried (Request start) = 0
+
 -- the sequence number of the frame in a transmission; None for a request, or past the last frame
 abbrev pub number_carried : Sending → ℕ → Option ℕ
 number_carried (Data numbers) i = slice_get numbers i

@@ -1,6 +1,7 @@
 //! The stations: rate, length exponent, turns and sums of airtime of each live one (`Members`); which of
-//! their TIDs have a block acknowledgement agreement (`Modes`); which of them sleep, and the credits of their
-//! polls (`Sleepers`; IEEE 802.11-2012, 10.2.1); and the counts of frames by fate (`Tally`).
+//! their TIDs have a block acknowledgement agreement (`Modes`); which of them sleep, the credits of their
+//! polls and their service periods (`Sleepers`; IEEE 802.11-2012, 10.2.1); and the counts of frames by fate
+//! (`Tally`).
 
 mod laws;
 mod members;

@@ -1,5 +1,6 @@
 -- Proves the law `the_readers_agree` by the lemmas of Readers.
 use Rattle.wf_send_half_model.proofs.Groups.{any_asleep_same}
+use Rattle.wf_send_half_model.proofs.Pulls.{more_in_same}
 use Rattle.wf_send_half_model.proofs.Readers.{live_same, queued_same, due_same, waiting_same, waiting_count_same, agreed_same, held_back_same, offloaded_same, plain_same, can_give_same, can_send_same, can_send_in_same, ready_same, to_list_same, pending_same, deficit_same, asks_same, exchange_same, station_count_same, tid_count_same, class_count_same, airtime_same, ahead_same, class_queued_same, any_tid_same, live_credit_same, class_same}
 use Rattle.wf_send_half_model.proofs.the_readers_agree.Goals as goal
 
@@ -69,8 +70,14 @@ returns-clause-class_queued c = class_queued_same
 pub returns-clause-any_tid : goal.returns-clause-any_tid
 returns-clause-any_tid c = any_tid_same
 
-pub returns-clause-polled : goal.returns-clause-polled
-returns-clause-polled c = class_same
+pub returns-clause-first : goal.returns-clause-first
+returns-clause-first c = class_same
+
+pub returns-clause-power_save : goal.returns-clause-power_save
+returns-clause-power_save c v w bodies s h live = h.others.stations.rests s live
+
+pub returns-clause-more : goal.returns-clause-more
+returns-clause-more c = more_in_same
 
 pub returns-clause-to_list : goal.returns-clause-to_list
 returns-clause-to_list c = to_list_same

@@ -30,6 +30,28 @@ pub enum Sending {
     Request(Seq12),
 }
 
+impl Sending {
+    ghost use Rattle.wf_send_parts.specs.Exchanges.{frames_carried, sending_is_request};
+
+    /// Returns whether it is a BlockAckReq.
+    pub fn is_request(&self) -> bool
+        ensures { result ≡ sending_is_request self.now }
+    {
+        matches!(self, Sending::Request(_))
+    }
+
+    /// Returns how many frames it sends, of which a request has none.
+    pub fn frames(&self) -> u16
+        ensures count { result ≡ frames_carried self.now }
+        ensures most { result ≤ 256 }
+    {
+        match self {
+            Sending::Data(numbers) => numbers.len() as u16,
+            Sending::Request(_) => 0,
+        }
+    }
+}
+
 /// An open exchange.
 #[derive(Drop)]
 pub struct Open {
@@ -47,6 +69,8 @@ pub struct Open {
     pub sending: Sending,
     /// The More Data bit of its frames (8.2.4.1.8).
     pub more: bool,
+    /// Whether it is the last exchange of a service period: the EOSP bit of its last frame (8.2.4.5.3).
+    pub eosp: bool,
     /// Whether the station's device numbers, aggregates and repeats its frames.
     pub batch: bool,
     /// Whether it sends one frame without an agreement, which an Ack answers.
@@ -88,7 +112,7 @@ impl Open {
     pub fn is_request(&self) -> bool
         ensures { result ≡ sending_is_request self.now.sending }
     {
-        matches!(&self.sending, Sending::Request(_))
+        self.sending.is_request()
     }
 
     /// Returns whether the transmission of this index, 0 to 255, has a mark: it never went on the air, or the

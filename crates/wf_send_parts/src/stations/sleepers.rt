@@ -1,10 +1,22 @@
-//! Which stations sleep, their credits, and which stations are stopped.
+//! Which stations sleep, their credits and service periods, and which stations are stopped.
 
-ghost use Rattle.std.specs.Prelude.{◌≡◌, ◌<◌, ◌≤◌, Some, None, IfOk, true, false, length, replicate};
+ghost use Rattle.std.specs.Prelude.{◌≡◌, ◌<◌, ◌≤◌, ◌&&◌, Some, None, IfOk, IfSome, true, false, length, replicate};
+ghost use Rattle.wf_frame.specs.Classes.{has_class};
+ghost use Rattle.wf_frame.specs.declared.classes.Class.{Class};
 
 use std::alloc::{AllocError, Global};
 use std::marker::Model;
-use wf_frame::Class;
+use wf_frame::{Class, GREATEST_CLASSES};
+
+/// A station that is awake, without a credit or a delivery-enabled class, and not stopped.
+const AWAKE: Sleeper = Sleeper {
+    asleep: false,
+    credit: None,
+    stopped: false,
+    delivery: 0,
+    most: 0,
+    service: None,
+};
 
 /// The power-save state of a station, and whether its driver stopped it.
 #[derive(Clone, Copy, Debug, PartialEq, Eq)]
@@ -15,9 +27,82 @@ pub struct Sleeper {
     pub credit: Option<Class>,
     /// Whether no pull picks it.
     pub stopped: bool,
+    /// Its delivery-enabled classes (IEEE 802.11-2012, 10.2.1.5): bit c is 1 if class number c is one.
+    pub delivery: u8,
+    /// The most frames of a service period. 0 means no limit.
+    pub most: u8,
+    /// How many frames are left of its service period, if one is open. 0 means no limit.
+    pub service: Option<u8>,
 }
 
-/// All stations, awake or asleep, with their credits, stopped or not. Contracts see them as a list by number.
+impl Sleeper {
+    ghost use Rattle.wf_send_parts.specs.Sleepers.{is_polled_in, is_reachable_in, is_served_in, is_told_in, is_used_up, service_limit_in};
+
+    /// Returns whether an exchange of a class is part of its service period: one is open, and the class is
+    /// delivery-enabled.
+    pub fn is_served(self, class: Class) -> bool
+        ensures { result ≡ is_served_in self class }
+    {
+        self.service.is_some() && class.is_in(self.delivery) && self.asleep
+    }
+
+    /// Returns whether it receives in a class now: it is awake, or has a credit for the class or a service
+    /// period.
+    pub fn is_reachable(self, class: Class) -> bool
+        ensures { result ≡ is_reachable_in self class }
+    {
+        !self.asleep || self.credit == Some(class) || self.is_served(class)
+    }
+
+    /// Returns the classes of its polls, as a set: those that are not delivery-enabled, or all four if all
+    /// are.
+    pub fn polled(self) -> u8
+        ensures { (c : Class) → has_class result c ≡ is_polled_in self c }
+    {
+        if self.delivery == GREATEST_CLASSES {
+            GREATEST_CLASSES
+        } else {
+            GREATEST_CLASSES - self.delivery % (GREATEST_CLASSES + 1)
+        }
+    }
+
+    /// Returns the classes that the More Data bit of an exchange of a class is about, as a set: in a service
+    /// period those that are delivery-enabled, otherwise those of a poll.
+    pub fn told(self, class: Class) -> u8
+        ensures { (c : Class) → has_class result c ≡ is_told_in self class c }
+    {
+        if self.is_served(class) {
+            self.delivery
+        } else {
+            self.polled()
+        }
+    }
+
+    /// Returns the most frames of an exchange of a class if it is part of a service period with a limit:
+    /// those that are left, 1 to 255.
+    pub fn service_limit(self, class: Class) -> Option<u8>
+        ensures exact { result ≡ service_limit_in self class }
+        ensures some { IfSome result (λ left. 1 ≤ left) }
+    {
+        match self.service {
+            Some(left) if self.is_served(class) && left > 0 => Some(left),
+            _ => None,
+        }
+    }
+
+    /// Returns whether this number of frames is all that is left of its service period.
+    pub fn is_used_up(self, frames: u16) -> bool
+        ensures { result ≡ is_used_up self frames }
+    {
+        match self.service {
+            Some(left) => left > 0 && u16::from(left) <= frames,
+            None => false,
+        }
+    }
+}
+
+/// All stations, awake or asleep, with their credits and service periods, stopped or not. Contracts see them
+/// as a list by number.
 #[derive(Drop)]
 pub struct Sleepers {
     stations: Vec<Sleeper>,
@@ -33,34 +118,33 @@ impl Model for Sleepers {
 }
 
 impl Sleepers {
-    ghost use Rattle.wf_send_parts.specs.Sleepers.{awake, sleeper, with_sleeper, woken};
+    ghost use Rattle.wf_send_parts.specs.Sleepers.{awake, sleeper, with_sleeper, woken, sleeper_spent};
 
-    /// Creates `stations` stations, 1 to 256, all awake, without a credit and not stopped. Fails only if
-    /// memory runs out.
+    /// Creates `stations` stations, 1 to 256, all awake, without a credit and not stopped. None has a
+    /// delivery-enabled class. Fails only if memory runs out.
     pub fn new(alloc: Global, stations: u32) -> Result<Sleepers, AllocError>
         requires { (1 ≤ stations) × (stations ≤ 256) }
         ensures { IfOk result (λ made. made ≡ replicate stations awake) }
     {
-        let awake = Sleeper {
-            asleep: false,
-            credit: None,
-            stopped: false,
-        };
         Ok(Sleepers {
-            stations: vec![in alloc; awake; stations as usize]?,
+            stations: vec![in alloc; AWAKE; stations as usize]?,
         })
     }
 
-    /// Makes a station awake, without a credit, and not stopped.
+    /// Makes a station awake, without a credit or a delivery-enabled class, and not stopped.
     pub fn reset(&mut self, station: u16)
         requires { station < length self.old }
         ensures { self.new ≡ with_sleeper self.old station awake }
     {
-        self.stations[usize::from(station)] = Sleeper {
-            asleep: false,
-            credit: None,
-            stopped: false,
-        };
+        self.stations[usize::from(station)] = AWAKE;
+    }
+
+    /// Returns the state of a station.
+    pub fn at(&self, station: u16) -> Sleeper
+        requires { station < length self.now }
+        ensures { result ≡ sleeper self.now station }
+    {
+        self.stations[usize::from(station)]
     }
 
     /// Returns whether a station sleeps.
@@ -80,7 +164,7 @@ impl Sleepers {
         self.stations[usize::from(station)].asleep = true;
     }
 
-    /// Wakes a station and clears its credit.
+    /// Wakes a station, clears its credit and ends its service period.
     pub fn wake(&mut self, station: u16)
         requires { station < length self.old }
         ensures { self.new ≡ with_sleeper self.old station (woken (sleeper self.old station)) }
@@ -88,6 +172,7 @@ impl Sleepers {
         let sleeper = &mut self.stations[usize::from(station)];
         sleeper.asleep = false;
         sleeper.credit = None;
+        sleeper.service = None;
     }
 
     /// Gives a sleeping station a credit for this class, instead of one that it may have.
@@ -108,13 +193,57 @@ impl Sleepers {
         self.stations[usize::from(station)].credit
     }
 
-    /// Clears a station's credit.
-    pub fn spend(&mut self, station: u16)
+    /// An exchange of a class goes to a station, with this number of frames, 0 for a request. If it is part
+    /// of a service period, it uses them, and `eosp` says that it ends the period. It spends a credit, unless
+    /// it is part of a service period and the credit is for another class.
+    pub fn spend(&mut self, station: u16, class: Class, frames: u16, eosp: bool)
         requires { station < length self.old }
         ensures { self.new ≡ with_sleeper self.old station
-            (record (sleeper self.old station) { credit = None }) }
+            (sleeper_spent class frames eosp (sleeper self.old station)) }
     {
-        self.stations[usize::from(station)].credit = None;
+        let sleeper = &mut self.stations[usize::from(station)];
+        let is_served = sleeper.is_served(class);
+        if !is_served || sleeper.credit == Some(class) {
+            sleeper.credit = None;
+        }
+        if is_served {
+            sleeper.service = match sleeper.service {
+                Some(left) if !eosp => Some(u16::from(left).saturating_sub(frames) as u8),
+                _ => None,
+            };
+        }
+    }
+
+    /// Gives a station these delivery-enabled classes, and service periods of at most `most` frames, 0 for no
+    /// limit.
+    pub fn set_delivery(&mut self, station: u16, classes: u8, most: u8)
+        requires { station < length self.old }
+        ensures { self.new ≡ with_sleeper self.old station
+            (record (sleeper self.old station) { delivery = classes; most = most }) }
+    {
+        let sleeper = &mut self.stations[usize::from(station)];
+        sleeper.delivery = classes;
+        sleeper.most = most;
+    }
+
+    /// Opens a service period of a sleeping station.
+    pub fn open(&mut self, station: u16)
+        requires within { station < length self.old }
+        requires asleep { (sleeper self.old station).asleep ≡ true }
+        ensures { self.new ≡ with_sleeper self.old station
+            (record (sleeper self.old station) { service = Some (sleeper self.old station).most }) }
+    {
+        let sleeper = &mut self.stations[usize::from(station)];
+        sleeper.service = Some(sleeper.most);
+    }
+
+    /// Ends a station's service period.
+    pub fn close(&mut self, station: u16)
+        requires { station < length self.old }
+        ensures { self.new ≡ with_sleeper self.old station
+            (record (sleeper self.old station) { service = None }) }
+    {
+        self.stations[usize::from(station)].service = None;
     }
 
     /// Returns whether no pull picks a station.

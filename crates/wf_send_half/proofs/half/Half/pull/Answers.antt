@@ -112,7 +112,7 @@ returns-in-Some-clause-meets c w bodies h = pull_done (picked_one c.self.view_is
     c.prepare-prepared.ensures.prepared c.put_on_air.ensures.opened c.put_on_air.ensures.brief
 
 pub returns-in-Some-clause-ready : goal.returns-in-Some-clause-ready
-returns-in-Some-clause-ready c e s t air request kind more is = c.put_on_air.ensures.ready
+returns-in-Some-clause-ready c e s t air request kind more eosp is = c.put_on_air.ensures.ready
     ∙ ap (is_ready_of c.put_on_air.new.self c.args.class) (cc (is, c.put_on_air.ensures.brief))
 
 pub returns-in-None-clause-meets : goal.returns-in-None-clause-meets
