@@ -34,11 +34,11 @@ use Rattle.wf_cell.proofs.Rights.{on_the_list}
 -- a pull does not change the body of a frame that it sends
 sent_body : (answered : ReplyNote) (bodies : ℕ → FrameValue) (id : ℕ) →
     (bodies_sent answered bodies id).body ≡ (bodies id).body
-sent_body (reply.Send exchange station tid air (Mpdus pairs) more) bodies id =
+sent_body (reply.Send exchange station tid air (Mpdus pairs) more eosp) bodies id =
     all_sent_keep (λ (f : FrameValue). f.body) (λ f. refl) pairs bodies id
-sent_body (reply.Send exchange station tid air (Plain pairs) more) bodies id =
+sent_body (reply.Send exchange station tid air (Plain pairs) more eosp) bodies id =
     all_sent_keep (λ (f : FrameValue). f.body) (λ f. refl) pairs bodies id
-sent_body (reply.Send exchange station tid air (Batch ids) more) bodies id =
+sent_body (reply.Send exchange station tid air (Batch ids) more eosp) bodies id =
     all_sent_keep (λ (f : FrameValue). f.body) (λ f. refl) (map (λ k. (k, 0)) ids) bodies id
 sent_body _ bodies id = refl
 
@@ -107,7 +107,7 @@ module _ (v : TransmitValue) (w : World) (bodies : ℕ → FrameValue) (stands :
   by_call ask reply.Set id = stays id
   by_call ask (reply.Now now) id = stays id
   by_call ask (reply.Accepted new dropped) id = stays id
-  by_call ask (reply.Send exchange station tid air part more) id = stays id
+  by_call ask (reply.Send exchange station tid air part more eosp) id = stays id
   by_call ask (reply.Released ids) id = stays id
   by_call ask (reply.Ba start b0 b1 b2 b3 wide) id = stays id
   by_call ask (reply.Done acked waiting failed) id = stays id
@@ -123,6 +123,7 @@ module _ (v : TransmitValue) (w : World) (bodies : ℕ → FrameValue) (stands :
   by_call ask reply.Freed id = stays id
   by_call ask (reply.Ceased dropped released) id = stays id
   by_call ask (reply.Group answer) id = stays id
+  by_call ask (reply.Service answer) id = stays id
   by_call ask (reply.Polled class) id = stays id
   by_call ask (reply.Charged deficit) id = stays id
   by_call ask (reply.Reaped gone fate) id = goes gone id
@@ -138,7 +139,7 @@ module _ (v : TransmitValue) (w : World) (bodies : ℕ → FrameValue) (stands :
   by_reply (Give f) reply.Set id next = stays id
   by_reply (Give f) (reply.Now now) id next = stays id
   by_reply (Give f) (reply.Accepted new dropped) id next = comes f new id (next f new dropped refl refl)
-  by_reply (Give f) (reply.Send exchange station tid air part more) id next = stays id
+  by_reply (Give f) (reply.Send exchange station tid air part more eosp) id next = stays id
   by_reply (Give f) (reply.Released ids) id next = stays id
   by_reply (Give f) (reply.Ba start b0 b1 b2 b3 wide) id next = stays id
   by_reply (Give f) (reply.Done acked waiting failed) id next = stays id
@@ -154,6 +155,7 @@ module _ (v : TransmitValue) (w : World) (bodies : ℕ → FrameValue) (stands :
   by_reply (Give f) reply.Freed id next = stays id
   by_reply (Give f) (reply.Ceased dropped released) id next = stays id
   by_reply (Give f) (reply.Group answer) id next = stays id
+  by_reply (Give f) (reply.Service answer) id next = stays id
   by_reply (Give f) (reply.Polled class) id next = stays id
   by_reply (Give f) (reply.Charged deficit) id next = stays id
   by_reply (Give f) (reply.Reaped gone fate) id next = goes gone id
@@ -223,6 +225,7 @@ reaped_body v w bodies job answered back stands told given id fate is =
     of (Call (ask.Free s t)) e = tt
     of (Call (ask.Cease s t)) e = tt
     of (Call (ask.Group asked)) e = tt
+    of (Call (ask.Service asked)) e = tt
 
 -- an id has a body exactly if its frame is inside
 pub ids_inside : (v : TransmitValue) (w : World) (bodies : ℕ → FrameValue) → StandsFor v w bodies → (id : ℕ) →

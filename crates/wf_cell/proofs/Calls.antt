@@ -381,7 +381,8 @@ pub record IsSend (answered : ReplyNote) : Type 0 where
   pub charge : ℕ
   pub part : Part
   pub more : Bool
-  pub is : answered ≡ reply.Send number station tid charge part more
+  pub eosp : Bool
+  pub is : answered ≡ reply.Send number station tid charge part more eosp
 
 send_is : (s t : ℕ) (c : Class) (p : Prepared) → IsSend (send_outcome s t c p).reply
 unfolding send_outcome
@@ -394,6 +395,7 @@ send_is s t c p =
       charge = x.charge;
       part = world_part_of x.batch x.plain x.content;
       more = x.more;
+      eosp = x.eosp;
       is = refl;
     }
 
@@ -424,10 +426,11 @@ module _ (w : World) (c : Class) (l : Limits) (r : IsReached w) (answered : Repl
   pub is_pulled : refusal w (Asked (ask.Pull c l)) ≡ None
   is_pulled = not_refused w (Asked (ask.Pull c l))
       (λ r other. let two : reply.Send sent.number sent.station sent.tid sent.charge sent.part sent.more
-      ≡ reply.Refused r = sym sent.is ∙ same ∙ other in cc)
+      sent.eosp ≡ reply.Refused r = sym sent.is ∙ same ∙ other in cc)
 
   pub number_is : sent.number ≡ w.exchanges
-  number_is = opened_number w c l sent.number sent.station sent.tid sent.charge sent.part sent.more r
+  number_is = opened_number w c l sent.number sent.station sent.tid sent.charge sent.part sent.more
+      sent.eosp r
       (sym same ∙ sent.is)
 
 -- an exchange that opens has a mark
@@ -484,8 +487,8 @@ joined_brief brief.Joined pairs ids e = refl
 joined_brief _ pairs ids e = cc
 
 pub send_brief : (b : Brief) (pairs : List (ℕ × ℕ)) (ids : List ℕ) → IsSend (reply_with b pairs ids) →
-    ((e s t a : ℕ) (r : Option ℕ) (k : Kind) (m : Bool) → b ≡ brief.Send e s t a r k m → ⊥) → ⊥
-send_brief (brief.Send e s t a r k m) pairs ids sent other = other e s t a r k m refl
+    ((e s t a : ℕ) (r : Option ℕ) (k : Kind) (m p : Bool) → b ≡ brief.Send e s t a r k m p → ⊥) → ⊥
+send_brief (brief.Send e s t a r k m p) pairs ids sent other = other e s t a r k m p refl
 send_brief _ pairs ids sent other = cc (sent.is)
 
 -- ---- calls of the path that change neither a receive half nor a mark
@@ -518,6 +521,7 @@ ask_untold (path_ask.Weight s weight) no_newcomer no_flush no_begin no_cease = t
 ask_untold (path_ask.Hold s t) no_newcomer no_flush no_begin no_cease = tt
 ask_untold (path_ask.Free s t) no_newcomer no_flush no_begin no_cease = tt
 ask_untold (path_ask.Group ask) no_newcomer no_flush no_begin no_cease = tt
+ask_untold (path_ask.Service ask) no_newcomer no_flush no_begin no_cease = tt
 
 -- such a call may be made in any world, except an Unsent
 pub ask_may : (ask : PathAsk) → ((e i : ℕ) → ask ≡ path_ask.Unsent e i → ⊥) → (w : World) →
@@ -544,6 +548,7 @@ ask_may (path_ask.Begin s t window) other w = tt
 ask_may (path_ask.Free s t) other w = tt
 ask_may (path_ask.Cease s t) other w = tt
 ask_may (path_ask.Group ask) other w = tt
+ask_may (path_ask.Service ask) other w = tt
 
 pub job_may : (job : PathJob) → ((ask : PathAsk) → job ≡ path_job.Call ask → ⊥) → (w : World) →
     MayCall w (job_of job)
@@ -585,6 +590,7 @@ not_received (path_job.Call (path_ask.Begin s t window)) = refl
 not_received (path_job.Call (path_ask.Free s t)) = refl
 not_received (path_job.Call (path_ask.Cease s t)) = refl
 not_received (path_job.Call (path_ask.Group ask)) = refl
+not_received (path_job.Call (path_ask.Service ask)) = refl
 
 -- for a call of the path alone, the reply says whether the path is unchanged
 pub path_kept_by : (job : PathJob) (answered : ReplyNote) →

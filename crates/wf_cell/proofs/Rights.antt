@@ -70,7 +70,7 @@ module _ (v : TransmitValue) (w : World) (bodies : ℕ → FrameValue) (stands :
   back_is (Give f) reply.Set e = refl
   back_is (Give f) (reply.Now now) e = refl
   back_is (Give f) (reply.Accepted id dropped) e = refl
-  back_is (Give f) (reply.Send exchange station tid air part more) e = refl
+  back_is (Give f) (reply.Send exchange station tid air part more eosp) e = refl
   back_is (Give f) (reply.Released ids) e = refl
   back_is (Give f) (reply.Ba start b0 b1 b2 b3 wide) e = refl
   back_is (Give f) (reply.Done acked waiting failed) e = refl
@@ -86,6 +86,7 @@ module _ (v : TransmitValue) (w : World) (bodies : ℕ → FrameValue) (stands :
   back_is (Give f) reply.Freed e = refl
   back_is (Give f) (reply.Ceased dropped released) e = refl
   back_is (Give f) (reply.Group answer) e = refl
+  back_is (Give f) (reply.Service answer) e = refl
   back_is (Give f) (reply.Polled class) e = refl
   back_is (Give f) (reply.Charged deficit) e = refl
   back_is (Give f) (reply.Reaped id fate) e = refl
@@ -95,7 +96,7 @@ module _ (v : TransmitValue) (w : World) (bodies : ℕ → FrameValue) (stands :
   back_is (Call ask.Reap) reply.Set e = refl
   back_is (Call ask.Reap) (reply.Now now) e = refl
   back_is (Call ask.Reap) (reply.Accepted id dropped) e = refl
-  back_is (Call ask.Reap) (reply.Send exchange station tid air part more) e = refl
+  back_is (Call ask.Reap) (reply.Send exchange station tid air part more eosp) e = refl
   back_is (Call ask.Reap) (reply.Released ids) e = refl
   back_is (Call ask.Reap) (reply.Ba start b0 b1 b2 b3 wide) e = refl
   back_is (Call ask.Reap) (reply.Done acked waiting failed) e = refl
@@ -111,6 +112,7 @@ module _ (v : TransmitValue) (w : World) (bodies : ℕ → FrameValue) (stands :
   back_is (Call ask.Reap) reply.Freed e = refl
   back_is (Call ask.Reap) (reply.Ceased dropped released) e = refl
   back_is (Call ask.Reap) (reply.Group answer) e = refl
+  back_is (Call ask.Reap) (reply.Service answer) e = refl
   back_is (Call ask.Reap) (reply.Polled class) e = refl
   back_is (Call ask.Reap) (reply.Charged deficit) e = refl
   back_is (Call ask.Reap) (reply.Reaped id fate) e = reaped_back id fate e
@@ -141,6 +143,7 @@ module _ (v : TransmitValue) (w : World) (bodies : ℕ → FrameValue) (stands :
   back_is (Call (ask.Free s t)) answered e = refl
   back_is (Call (ask.Cease s t)) answered e = refl
   back_is (Call (ask.Group asked)) answered e = refl
+  back_is (Call (ask.Service asked)) answered e = refl
 
 -- an answer is right if its reply is the run's and the returned frame is the path's
 pub is_right : (v : TransmitValue) (p : Past) (bodies : ℕ → FrameValue) (job : Job) (answered : ReplyNote)

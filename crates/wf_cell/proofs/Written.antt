@@ -16,7 +16,7 @@ use Rattle.wf_law_runs.specs.Windows.{EachMpdu}
 use Rattle.wf_law_runs.proofs.Sent.Lengths.{IsStocked, stocked}
 use Rattle.wf_octets.specs.Fields.{number_at, two_octets}
 use Rattle.wf_octets.specs.declared.header.header.Header.{Header}
-use Rattle.wf_octets.specs.HeaderLayout.{first_octet, flags_octet, header_as_octets}
+use Rattle.wf_octets.specs.HeaderLayout.{first_octet, flags_octet, qos_octet, header_as_octets}
 use Rattle.wf_octets.proofs.HeaderWritten.{qos_begins, qos_long}
 use Rattle.wf_octets.specs.BlockLayout.{request, narrow_fragment}
 use Rattle.wf_octets.proofs.BlockWritten.{head_begins}
@@ -49,7 +49,8 @@ pub header_long : (w : World) (bodies : ℕ → FrameValue) (x : Exchange) (m : 
     length (header_as_octets (header_of plain w bodies x m)) ≡ 26
 header_long w bodies x m source =
     let h : Header = header_of plain w bodies x m in
-    qos_long (first_octet h.kind) (flags_octet h) h.duration h.a1 h.a2 h.a3 (16 * h.seq) h.tid refl refl
+    qos_long (first_octet h.kind) (flags_octet h) h.duration h.a1 h.a2 h.a3 (16 * h.seq) (qos_octet h)
+    refl refl
     source
 
 -- the Duration fits its two octets
@@ -182,13 +183,14 @@ module _ (v : TransmitValue) (w : World) (bodies : ℕ → FrameValue) (h : Stan
       (stocked greatest_body w.config r.history r.lengths.1) in
       omega (arith, all.short m.id, ap len_of (h.parts.others.notes m.id (is_accepted k m among)).note)
 
-  data_short : (k : ℕ) (m : Mpdu) → slice_get (mpdus_of x.content) k ≡ Some m →
-      length (data_octets plain w bodies x m) ≤ 2330
-  data_short k m among = omega (
+  -- so its octets are at most 2330, in any exchange
+  data_short : (y : Exchange) (k : ℕ) (m : Mpdu) → slice_get (mpdus_of x.content) k ≡ Some m →
+      length (data_octets plain w bodies y m) ≤ 2330
+  data_short y k m among = omega (
     arith,
     body_short k m among,
-    header_long w bodies x m (has_source k m among),
-    length-append (header_as_octets (header_of plain w bodies x m)) (bodies m.id).body,
+    header_long w bodies y m (has_source k m among),
+    length-append (header_as_octets (header_of plain w bodies y m)) (bodies m.id).body,
   )
 
   content_short : (k : ℕ) (octets : List ℕ) (content : Content) → x.content ≡ content →
@@ -205,7 +207,8 @@ module _ (v : TransmitValue) (w : World) (bodies : ℕ → FrameValue) (h : Stan
       of (Some m) among sent =
           let same : data_octets plain w bodies (record x { content = Frames mpdus }) m ≡ octets = cc in
           subst (λ (xs : List ℕ). length xs ≤ 2330) same
-          (data_short k m (ap (λ (c : Content). slice_get (mpdus_of c) k) is ∙ among))
+          (data_short (record x { content = Frames mpdus }) k m
+          (ap (λ (c : Content). slice_get (mpdus_of c) k) is ∙ among))
   content_short zero octets (Request start) is sent =
       let same : bar_octets plain (record x { content = Request start }) start ≡ octets = cc in
       subst (λ (xs : List ℕ). length xs ≤ 2330) same (lit≤ tt)

@@ -1,7 +1,7 @@
 -- Proves which calls leave every receive half unchanged.
 use Rattle.std.proofs.Common.{◌≡◌, ◌≢◌, refl, ap, ap₂, sym, ◌∙◌, subst, ℕ, ◌==◌, Bool, true, false, List, [], ◌∷◌, map, Option, Some, None, is_some, if◌then◌else◌, length}
 use Rattle.wf_frame.specs.declared.settings.Config.{Config}
-use Rattle.wf_frame.specs.declared.notes.Ask.TheVariants.{Join, Leave, Rate, Tick, Pull, Arrive, Answer, Done, Sleep, Wake, Poll, Rx, Reap, Ampdu, Stop, Start, Unsent, GiveUp, Flush, Offload, Weight, Plain, Hold, Begin, Free, Cease, Group}
+use Rattle.wf_frame.specs.declared.notes.Ask.TheVariants.{Join, Leave, Rate, Tick, Pull, Arrive, Answer, Done, Sleep, Wake, Poll, Rx, Reap, Ampdu, Stop, Start, Unsent, GiveUp, Flush, Offload, Weight, Plain, Hold, Begin, Free, Cease, Group, Service}
 use Rattle.wf_frame.specs.declared.notes.Note.{Note}
 use Rattle.wf_frame.specs.declared.notes.Note.TheVariants.{Enqueue, Asked}
 use Rattle.wf_frame.specs.declared.notes.Refusal.{Refusal}
@@ -13,6 +13,7 @@ use Rattle.wf_def_agreement.specs.Session.{Session}
 use Rattle.wf_def_world.specs.World.{World, Station, Tid, Mode, Exchange, session, receiver, is_live, exchange, with_exchange, with_station, with_mode, opening}
 use Rattle.wf_def_world.specs.CanSend.{with_listings_of}
 use Rattle.wf_def_world.specs.Refusals.{refusal}
+use Rattle.wf_def_world.specs.Service.{station_served}
 use Rattle.wf_def_world.specs.Exchanges.{after_pick}
 use Rattle.wf_frame.specs.declared.classes.Class.{Class}
 use Rattle.wf_def_world.specs.Step.{Outcome, after_tids_left, without_listings, leave_outcome, rate_outcome, tick_outcome, outcome_where_open, sleep_outcome, wake_outcome, poll_outcome, rx_outcome, reap_outcome, unsent_outcome, give_up_outcome, hold_outcome, free_outcome, outcome_of, concerned_station, after_refusal, judged_outcome, step}
@@ -214,6 +215,8 @@ left_quiet (Asked (Begin s t window)) w k = absurd k
 left_quiet (Asked (Free s t)) w k = left_moded w s t _
 left_quiet (Asked (Cease s t)) w k = absurd k
 left_quiet (Asked (Group ask)) w k = left_here w _ refl refl
+left_quiet (Asked (Service ask)) w k =
+    left_same w _ (same_on_station w (station_served ask) _ (λ x t. refl))
 
 -- An idle pull leaves what receivers have, whether it changes the lists or not.
 left_idle : (b : Bool) (w : World) (c : Class) → IsLeft w (if b then w else after_pick w c)

@@ -45,7 +45,7 @@ unfolding send_outcome with_exchange_opened
 sent_marks s t c w p r =
     let x : Exchange = exchange_of s t c p in
     let v : World = record p.world { exchanges = p.world.exchanges + 1; opened = p.world.opened ++ x ∷ [] } in
-    ap (map mark_of) (same_spent v s).opened
+    ap (map mark_of) (same_spent v x).opened
     ∙ (map-append mark_of p.world.opened (x ∷ [])
     ∙ ap₂ (λ (xs : List Exchange) (n : ℕ). map mark_of xs ++ new_mark n ∷ []) r.opened r.exchanges)
 
@@ -67,12 +67,12 @@ pulled_marks (Some s) w c some live i =
     sent_marks s _ c _ _ (ready_sent w s c live i)
     ∙ ap₂ (λ (xs : List Exchange) (n : ℕ). map mark_of xs ++ new_mark n ∷ []) k.opened k.exchanges
 
-pulled_number : (o : Option ℕ) (w : World) (c : Class) (e s t charge : ℕ) (part : Part) (more : Bool) →
+pulled_number : (o : Option ℕ) (w : World) (c : Class) (e s t charge : ℕ) (part : Part) (more eosp : Bool) →
     IfSome o (λ s. is_live w s ≡ true) →
-    IsLawful w → (pull_outcome_for w c o).reply ≡ Send e s t charge part more → e ≡ w.exchanges
+    IsLawful w → (pull_outcome_for w c o).reply ≡ Send e s t charge part more eosp → e ≡ w.exchanges
 unfolding pull_outcome_for send_outcome
-pulled_number None w c e s t charge part more live i h = absurd (cc h)
-pulled_number (Some a) w c e s t charge part more live i h =
+pulled_number None w c e s t charge part more eosp live i h = absurd (cc h)
+pulled_number (Some a) w c e s t charge part more eosp live i h =
     let k : Same w (after_tid_turn w a c (sending_tid w a c)) = same_after_turn w a c (sending_tid w a c) in
     let it : (prepared_exchange (after_tid_turn w a c (sending_tid w a c)) a
     (sending_tid w a c)).world.exchanges ≡ e = cc h in
@@ -110,27 +110,27 @@ opened_hears peers marks w c l reached h fine =
     (stays_kept w _ (keep_pulled w c l) (receivers_pulled w c l i))
     (ap (λ (ms : List Mark). ms ++ new_mark w.exchanges ∷ []) h.kept ∙ sym (opened_marks w c l i some)) h
 
-sent_number : (w : World) (c : Class) (l : Limits) (e s t charge : ℕ) (part : Part) (more : Bool) →
-    IsLawful w → (pull_outcome w c l).reply ≡ Send e s t charge part more → e ≡ w.exchanges
+sent_number : (w : World) (c : Class) (l : Limits) (e s t charge : ℕ) (part : Part) (more eosp : Bool) →
+    IsLawful w → (pull_outcome w c l).reply ≡ Send e s t charge part more eosp → e ≡ w.exchanges
 unfolding pull_outcome
-sent_number w c l e s t charge part more i h =
+sent_number w c l e s t charge part more eosp i h =
     let k : Same w (picked_world w c l) = same_picked w c l in
-    pulled_number (picked_station w c).winner (picked_world w c l) c e s t charge part more
+    pulled_number (picked_station w c).winner (picked_world w c l) c e s t charge part more eosp
     (picked_live w c l)
     (lawful_same _ _ k i) h ∙ k.exchanges
 
 judged_number : (o : Option Refusal) (w : World) (c : Class) (l : Limits) (e s t charge : ℕ) (part : Part)
-    (more : Bool) → IsLawful w →
-    (judged_outcome w (Asked (Pull c l)) o).reply ≡ Send e s t charge part more → e ≡ w.exchanges
+    (more eosp : Bool) → IsLawful w →
+    (judged_outcome w (Asked (Pull c l)) o).reply ≡ Send e s t charge part more eosp → e ≡ w.exchanges
 unfolding judged_outcome outcome_of
-judged_number (Some r) w c l e s t charge part more i h = absurd (cc h)
-judged_number None w c l e s t charge part more i h = sent_number w c l e s t charge part more i h
+judged_number (Some r) w c l e s t charge part more eosp i h = absurd (cc h)
+judged_number None w c l e s t charge part more eosp i h = sent_number w c l e s t charge part more eosp i h
 
-pub opened_number : (w : World) (c : Class) (l : Limits) (e s t charge : ℕ) (part : Part) (more : Bool) →
-    IsReached w → (step w (Asked (Pull c l))).reply ≡ Send e s t charge part more → e ≡ w.exchanges
+pub opened_number : (w : World) (c : Class) (l : Limits) (e s t charge : ℕ) (part : Part) (more eosp : Bool) →
+    IsReached w → (step w (Asked (Pull c l))).reply ≡ Send e s t charge part more eosp → e ≡ w.exchanges
 unfolding step
-opened_number w c l e s t charge part more reached h =
-    judged_number (refusal w (Asked (Pull c l))) w c l e s t charge part more (lawful_now w reached) h
+opened_number w c l e s t charge part more eosp reached h =
+    judged_number (refusal w (Asked (Pull c l))) w c l e s t charge part more eosp (lawful_now w reached) h
 
 -- ---- its number is above all others
 

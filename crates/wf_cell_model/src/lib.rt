@@ -102,8 +102,9 @@ pub fn an_exchange_opens()
         refusal w (Asked (Pull c limits)) ≡ None → Hears peers (marks ++ new_mark w.exchanges ∷ [])
         (step w (Asked (Pull c limits))).world }
     ensures number { (w : World) (c : Class) (limits : Limits) (e s t charge : ℕ) (part : Part)
-        (more : Bool) →
-        IsReached w → (step w (Asked (Pull c limits))).reply ≡ Send e s t charge part more → e ≡ w.exchanges }
+        (more eosp : Bool) →
+        IsReached w → (step w (Asked (Pull c limits))).reply ≡ Send e s t charge part more eosp →
+        e ≡ w.exchanges }
     ensures room { (peers : List PeerValue) (marks : List Mark) (w : World) (c : Class)
         (limits : Limits) → IsReached w → Hears peers marks w →
         refusal w (Asked (Pull c limits)) ≡ None → length marks < MOST_OPEN }

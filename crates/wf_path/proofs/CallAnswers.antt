@@ -9,12 +9,13 @@ use Rattle.wf_frame.specs.declared.notes.Ask.{Ask}
 use Rattle.wf_frame.specs.declared.notes.Ask.TheVariants.{Cease}
 use Rattle.wf_frame.specs.declared.notes.Note.TheVariants.{Asked}
 use Rattle.wf_frame.specs.declared.notes.ReplyNote.{ReplyNote}
-use Rattle.wf_frame.specs.declared.notes.ReplyNote.TheVariants.{Joined, Left, Set, Now, Accepted, Send, Released, Ba, Done, Slept, Woken, Polled, Charged, Reaped, Stopped, Started, Marked, Flushed, Ack, Held, Begun, Freed, Ceased, Group, Refused}
+use Rattle.wf_frame.specs.declared.notes.ReplyNote.TheVariants.{Joined, Left, Set, Now, Accepted, Send, Released, Ba, Done, Slept, Woken, Polled, Charged, Reaped, Stopped, Started, Marked, Flushed, Ack, Held, Begun, Freed, Ceased, Group, Service, Refused}
 use Rattle.wf_def_world.specs.World.{World}
 use Rattle.wf_send_half_model.specs.Flushing.{released_at_cease}
 use Rattle.wf_send_half_model.specs.Half.{TransmitValue}
 use Rattle.wf_send_half_model.specs.Standing.{StandsFor, Meets}
 use Rattle.wf_path.specs.Addresses.{Addresses}
+use Rattle.wf_path.specs.Group.{FliesAsSaid}
 use Rattle.wf_path.specs.Jobs.{bodies_after, changes_nothing, is_refused, with_released}
 use Rattle.wf_path.specs.declared.job.Job.TheVariants.{Call}
 use Rattle.wf_path.specs.Paths.{PathValue, IsPath, RiseLittle, IsAnsweredBriefly}
@@ -30,7 +31,7 @@ refused_so (Left dropped) is = absurd (cc is)
 refused_so Set is = absurd (cc is)
 refused_so (Now now) is = absurd (cc is)
 refused_so (Accepted id dropped) is = absurd (cc is)
-refused_so (Send exchange station tid air part more) is = absurd (cc is)
+refused_so (Send exchange station tid air part more eosp) is = absurd (cc is)
 refused_so (Released ids) is = absurd (cc is)
 refused_so (Ba start b0 b1 b2 b3 wide) is = absurd (cc is)
 refused_so (Done acked waiting failed) is = absurd (cc is)
@@ -49,6 +50,7 @@ refused_so Begun is = absurd (cc is)
 refused_so Freed is = absurd (cc is)
 refused_so (Ceased dropped ids) is = absurd (cc is)
 refused_so (Group answer) is = absurd (cc is)
+refused_so (Service answer) is = absurd (cc is)
 
 -- x is the half of the path p, a are its addresses, and u is the half after the call
 module _ (x : TransmitValue) (h : IsPath x) (ask : Ask) (reply : ReplyNote) (u : TransmitValue)
@@ -58,9 +60,9 @@ module _ (x : TransmitValue) (h : IsPath x) (ask : Ask) (reply : ReplyNote) (u :
       ((pairs : List (ℕ × ℕ)) (ids : List ℕ) → reply_with brief pairs ids ≡ reply) →
       ((w : World) (bodies : ℕ → FrameValue) → bodies_after p.half w (Call ask) reply bodies ≡ bodies) →
       ((w : World) → with_released w (Call ask) reply ≡ reply) →
-      (is_refused reply ≡ true → u ≡ x) →
+      (is_refused reply ≡ true → u ≡ x) → FliesAsSaid u.group reply →
       IsAnsweredBriefly p ask (record { half = u; addresses = a }) brief
-  answered_briefly a p same brief says sends told stays pairs = record {
+  answered_briefly a p same brief says sends told stays flight pairs = record {
     meets = λ w bodies ids st _.
         subst (λ (z : ReplyNote). Meets w (bodies_after p.half w (Call ask) z bodies) (Asked ask) u
         (with_released w (Call ask) z))
@@ -72,6 +74,7 @@ module _ (x : TransmitValue) (h : IsPath x) (ask : Ask) (reply : ReplyNote) (u :
         (stays (ap is_refused (sym (says pairs ids)) ∙ refused_so (reply_with brief pairs ids) is)) ∙ same;
     pending = λ ids on is. ap (λ (z : TransmitValue). with_half a z)
         (stays (ap is_refused (sym (says pairs ids)) ∙ is)) ∙ same;
+    flight = λ ids. subst (FliesAsSaid u.group) (sym (says pairs ids)) flight;
     addresses = addresses_are same;
     path = unheard;
     rises = subst (λ (z : TransmitValue). RiseLittle z u) (half_is same) (rises_by x u h h.bodies
@@ -95,6 +98,7 @@ ceased_briefly x h s t dropped u meets unheard a p same brief is pairs = record 
       sym (ap (λ (b : Brief). changes_nothing (reply_with b pairs ids)) is) ∙ e in cc k);
   pending = λ ids _ e. absurd (let k : false ≡ true =
       sym (ap (λ (b : Brief). is_refused (reply_with b pairs ids)) is) ∙ e in cc k);
+  flight = λ ids. subst (λ (b : Brief). FliesAsSaid u.group (reply_with b pairs ids)) (sym is) tt;
   addresses = addresses_are same;
   path = unheard;
   rises = subst (λ (z : TransmitValue). RiseLittle z u) (half_is same) (rises_by x u h h.bodies

@@ -59,9 +59,11 @@ times_in_batch (i ∷ ids) id =
 pub pull_counts : (reply : ReplyNote) (bodies : ℕ → FrameValue) (id : ℕ) →
     (bodies id).attempts + times_sent reply id ≤ most_attempts →
     (bodies_sent reply bodies id).attempts ≡ (bodies id).attempts + times_sent reply id
-pull_counts (Send exchange station tid air (Mpdus pairs) more) bodies id fits = counted pairs bodies id fits
-pull_counts (Send exchange station tid air (Plain pairs) more) bodies id fits = counted pairs bodies id fits
-pull_counts (Send exchange station tid air (Batch ids) more) bodies id fits =
+pull_counts (Send exchange station tid air (Mpdus pairs) more eosp) bodies id fits =
+    counted pairs bodies id fits
+pull_counts (Send exchange station tid air (Plain pairs) more eosp) bodies id fits =
+    counted pairs bodies id fits
+pull_counts (Send exchange station tid air (Batch ids) more eosp) bodies id fits =
     let times : times_in (map (λ i. (i, 0)) ids) id ≡ count_by (λ i. i == id) ids = times_in_batch ids id in
     omega (arith, counted (map (λ i. (i, 0)) ids) bodies id (omega (arith, times, fits)), times)
 pull_counts _ bodies id fits = omega arith

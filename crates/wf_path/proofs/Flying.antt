@@ -1,8 +1,9 @@
 -- Proves that the number of a data transmission flies in the window of its TID, and that its
 -- frame is the frame with its id. The end of its exchange could begin, so the facts of an ending hold.
-use Rattle.std.proofs.Common.{◌≡◌, refl, ap, sym, ◌∙◌, subst, ℕ, zero, suc, ◌<◌, ◌==◌, Bool, true, List, [], ◌∷◌, map, Option, Some, None, option_map, eq-eqb}
+use Rattle.std.proofs.Common.{◌≡◌, refl, ap, sym, ◌∙◌, subst, ℕ, zero, suc, ◌+◌, ◌<◌, ◌==◌, Bool, true, List, [], ◌∷◌, length, map, Option, Some, None, option_map, eq-eqb}
 use Rattle.std.specs.Prelude.{find, option_and_then, slice_get}
 use Rattle.std.proofs.lemmas.Bool.{or_left, or_right}
+use Rattle.std.proofs.lemmas.List.{length-map}
 use Rattle.std.proofs.lemmas.Option.{slice_get-map}
 use Rattle.wf_frame.specs.Frames.{FrameValue}
 use Rattle.wf_def_lists.specs.Table.{has}
@@ -12,7 +13,7 @@ use Rattle.wf_def_world.specs.Exchanges.{mpdus_of, after_charge, with_all_settle
 use Rattle.wf_law_runs.specs.Windows.{EachMpdu}
 use Rattle.wf_send_parts.specs.declared.exchanges.opened.Open.{Open}
 use Rattle.wf_send_parts.specs.declared.exchanges.opened.Sending.TheVariants.{Data}
-use Rattle.wf_send_parts.specs.Exchanges.{number_carried}
+use Rattle.wf_send_parts.specs.Exchanges.{number_carried, transmissions_of}
 use Rattle.wf_send_parts.specs.Window.{WindowStandsFor as WindowStandsFor, IsNumber, state_at, holds_parcel, on_air}
 use Rattle.wf_send_parts.proofs.Numbers.{open_number}
 use Rattle.wf_send_parts.proofs.Callers.{state_is}
@@ -22,18 +23,19 @@ use Rattle.wf_send_half_model.specs.Half.{TransmitValue}
 use Rattle.wf_send_half_model.specs.Standing.{sending_of, open_of, numbers_on_air, StandsFor}
 use Rattle.wf_send_half_model.specs.Ending.{after_close, ending_of, IsLoose, IsEnding}
 use Rattle.wf_send_half_model.specs.Views.{Agreements}
-use Rattle.wf_send_half_model.proofs.Endings.{closed_agreements}
+use Rattle.wf_send_half_model.proofs.Endings.{closed_agreements, open_sent}
 use Rattle.wf_send_half.specs.Half.{HasWorld}
 use Rattle.wf_send_half.proofs.Dones.{IsKnown, known_of, none_open, low_tid as low}
 use Rattle.wf_send_half.proofs.Ends.{IsData, sends as data_sent, begun}
 use Rattle.wf_octets.specs.HeaderLayout.{header_as_octets}
 use Rattle.wf_path.specs.Addresses.{Addresses}
-use Rattle.wf_path.specs.Transmissions.{transmission_id, transmission_tag, transmission_bare, transmission_header, id_sent, tag_sent, bare_sent, header_of, header_sent}
+use Rattle.wf_path.specs.Transmissions.{transmission_id, transmission_tag, transmission_bare, transmission_header, id_sent, tag_sent, bare_sent, header_of, header_sent, is_last_frame}
 use Rattle.wf_path.specs.Writing.{no_data_fault, write_header_fault}
 use Rattle.std.specs.Option.{option_map_or}
 use Rattle.wf_path.specs.declared.faults.PathFault.TheVariants.{NoExchange, BadIndex}
 use Rattle.wf_octets.specs.declared.header.header.Header.{Header}
 use Rattle.wf_path.specs.Flights.{IsInFlight, Flies}
+use Rattle.wf_path.proofs.LastFrames.{last_at}
 use Rattle.wf_path.proofs.Opened.{live, within}
 
 -- ---- one element of a list
@@ -64,6 +66,12 @@ air_of (Frames mpdus) i seq m is carries =
     ∙ ap (option_map (λ (k : Mpdu). on_air k.number)) is in
     cc (there, carries)
 air_of (Request start) i seq m is carries = absurd (cc is)
+
+-- it has one transmission for each frame
+counted : (c : Content) (i : ℕ) (m : Mpdu) → slice_get (mpdus_of c) i ≡ Some m →
+    transmissions_of (sending_of c) ≡ length (mpdus_of c)
+counted (Frames mpdus) i m is = length-map mpdus (λ k. on_air k.number)
+counted (Request start) i m is = absurd (cc is)
 
 -- ---- one transmission
 
@@ -132,6 +140,13 @@ module _ (v : TransmitValue) (o : Open) (index : ℕ) (w : World) (bodies : ℕ 
   pub station_within : o.station < v.config.stations
   station_within = subst (λ (k : Open). k.station < v.config.stations) (sym f.same)
       (within v w bodies f.stands f.number x f.known)
+
+  -- whether it is the last one of its exchange
+  pub last : (index + 1 == transmissions_of o.sending) ≡ is_last_frame x m
+  last =
+      ap (λ (k : Open). index + 1 == transmissions_of k.sending) f.same
+      ∙ ap (λ n. index + 1 == n) (counted x.content index m f.among)
+      ∙ last_at x index y.first m (open_sent w f.stands.reached f.number x f.known).rising f.among
 
   pub tid_low : o.tid < 8
   tid_low = subst (λ (k : Open). k.tid < 8) (sym f.same) (low v w bodies f.stands f.number x f.known)

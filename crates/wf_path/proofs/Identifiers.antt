@@ -14,6 +14,7 @@ use Rattle.wf_def_world.specs.Exchanges.{has_more}
 use Rattle.wf_def_world.specs.Text.{with_traffic}
 use Rattle.wf_octets.specs.Tim.{aids_of}
 use Rattle.wf_send_parts.specs.Sleepers.{sleeper}
+use Rattle.wf_send_parts.specs.declared.stations.sleepers.Sleeper.{Sleeper}
 use Rattle.wf_send_half_model.specs.Half.{TransmitValue}
 use Rattle.wf_send_half_model.specs.Pulling.{has_more_of}
 use Rattle.wf_send_half_model.specs.Standing.{StandsFor}
@@ -203,7 +204,8 @@ module _ (v : TransmitValue) (w : World) (bodies : ℕ → FrameValue) (h : Stan
   traffic_same : (s : ℕ) → has_traffic_of v s ≡ has_traffic w s
   traffic_same s = elim (cases_Bool (is_live w s)) [
     | inl live ↦ ap₂ (λ a b. a && b) (live_same v w bodies s h.parts)
-        (ap₂ (λ a b. a && b) (h.parts.others.stations.asleep s live) (more_same v w bodies s h.parts live))
+        (ap₂ (λ a b. a && b) (ap (λ (y : Sleeper). y.asleep) (h.parts.others.stations.rests s live))
+        (more_same v w bodies s h.parts live))
     | inr off ↦
         ap (λ b. b && ((sleeper v.sleepers s).asleep && has_more_of v s))
         (live_same v w bodies s h.parts ∙ off)

@@ -1,7 +1,7 @@
 -- Proves that a station that is live only since a call has joined by this call, so its airtimes begin at 0.
 -- By cases of the call.
 use Rattle.std.proofs.Common.{◌≡◌, refl, ap, sym, ◌∙◌, ℕ, ◌==◌, ◌&&◌, Bool, true, false, if◌then◌else◌, List, [], ◌∷◌, Option, Some, None, is_none, IfSome}
-use Rattle.wf_frame.specs.declared.notes.Ask.TheVariants.{Join, Leave, Rate, Tick, Pull, Arrive, Answer, Done, Sleep, Wake, Poll, Rx, Reap, Ampdu, Stop, Start, Unsent, GiveUp, Flush, Offload, Weight, Plain, Hold, Begin, Free, Cease, Group}
+use Rattle.wf_frame.specs.declared.notes.Ask.TheVariants.{Join, Leave, Rate, Tick, Pull, Arrive, Answer, Done, Sleep, Wake, Poll, Rx, Reap, Ampdu, Stop, Start, Unsent, GiveUp, Flush, Offload, Weight, Plain, Hold, Begin, Free, Cease, Group, Service}
 use Rattle.wf_frame.specs.declared.notes.Note.{Note}
 use Rattle.wf_frame.specs.declared.notes.Note.TheVariants.{Enqueue, Asked}
 use Rattle.wf_frame.specs.declared.notes.Refusal.{Refusal}
@@ -10,6 +10,7 @@ use Rattle.wf_frame.specs.Classes.{all_classes}
 use Rattle.wf_def_lists.specs.Table.{upto}
 use Rattle.wf_def_world.specs.World.{World, Mode, Exchange, is_live, exchange, with_station, with_mode}
 use Rattle.wf_def_world.specs.Refusals.{refusal}
+use Rattle.wf_def_world.specs.Service.{station_served}
 use Rattle.wf_frame.specs.declared.classes.Class.{Class}
 use Rattle.wf_def_world.specs.Exchanges.{after_pick}
 use Rattle.wf_def_world.specs.Step.{Outcome, join_outcome, offload_outcome, plain_outcome, hold_outcome, free_outcome, after_tids_left, without_listings, leave_outcome, rate_outcome, tick_outcome, outcome_where_open, sleep_outcome, wake_outcome, poll_outcome, rx_outcome, reap_outcome, concerned_station, outcome_of, after_refusal, judged_outcome, step}
@@ -129,6 +130,8 @@ were_done (Asked (Begin s t window)) w i = λ j other live. sym (live_begun w s 
 were_done (Asked (Free s t)) w i = were_moded (Asked (Free s t)) w s t _
 were_done (Asked (Cease s t)) w i = λ j other live. sym (live_ceased w s t j) ∙ live
 were_done (Asked (Group ask)) w i = λ s other live. live
+were_done (Asked (Service ask)) w i =
+    were_same (Asked (Service ask)) w _ (same_on_station w (station_served ask) _ (λ x t. refl))
 
 -- ---- the step
 
@@ -180,6 +183,7 @@ begun (Asked (Begin i t window)) w s n fine own = absurd (cc own)
 begun (Asked (Free i t)) w s n fine own = absurd (cc own)
 begun (Asked (Cease i t)) w s n fine own = absurd (cc own)
 begun (Asked (Group ask)) w s n fine own = absurd (cc own)
+begun (Asked (Service ask)) w s n fine own = absurd (cc own)
 
 new_answer : (r : Option Refusal) (w : World) (note : Note) (s n : ℕ) → refusal w note ≡ r → IsLawful w →
     is_live w s ≡ false → is_live (judged_outcome w note r).world s ≡ true → since_join w s note n ≡ 0

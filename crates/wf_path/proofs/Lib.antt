@@ -8,10 +8,12 @@ mod EachShown
 mod Ending
 mod Flying
 mod Given
+mod GroupFlights
 mod Identifiers
 mod Inside
 mod Jobs
 mod Joining
+mod LastFrames
 pub mod MadeUp
 mod Marks
 mod Opened

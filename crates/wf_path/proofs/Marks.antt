@@ -35,6 +35,7 @@ use Rattle.wf_send_half_model.specs.Standing.{IsReached, StandsFor, Meets}
 use Rattle.wf_send_half_model.proofs.Reached.{reached_step, step_done as whole_step}
 use Rattle.wf_path.specs.Addresses.{Addresses}
 use Rattle.wf_path.specs.Each.{marks, bodies_each}
+use Rattle.wf_path.specs.Group.{FliesAsSaid}
 use Rattle.wf_path.specs.Heard.{IsMarked}
 use Rattle.wf_path.specs.Jobs.{is_refused}
 use Rattle.wf_path.specs.Paths.{PathValue, IsPath, RiseLittle, IsAnsweredBriefly}
@@ -66,9 +67,9 @@ module _ (x : TransmitValue) (h : IsPath x) (e i : ℕ) (reply : ReplyNote) (u :
   pub unsent_briefly : (a : Addresses) (p : PathValue) →
       ◌≡◌ {A = PathValue} (record { half = x; addresses = a }) p → (brief : Brief) →
       ((pairs : List (ℕ × ℕ)) (ids : List ℕ) → reply_with brief pairs ids ≡ reply) →
-      (is_refused reply ≡ true → u ≡ x) →
+      (is_refused reply ≡ true → u ≡ x) → FliesAsSaid u.group reply →
       IsAnsweredBriefly p (machine.Unsent e i) (record { half = u; addresses = a }) brief
-  unsent_briefly a p same brief says stays pairs = record {
+  unsent_briefly a p same brief says stays flight pairs = record {
     meets = λ w bodies ids st told.
         subst (λ (z : ReplyNote). Meets w (bodies_unsent (exchange w e) i z bodies)
         (Asked (machine.Unsent e i)) u z) (sym (says pairs ids))
@@ -77,6 +78,7 @@ module _ (x : TransmitValue) (h : IsPath x) (e i : ℕ) (reply : ReplyNote) (u :
         (stays (ap is_refused (sym (says pairs ids)) ∙ refused_so (reply_with brief pairs ids) is)) ∙ same;
     pending = λ ids on is. ap (λ (z : TransmitValue). with_half a z)
         (stays (ap is_refused (sym (says pairs ids)) ∙ is)) ∙ same;
+    flight = λ ids. subst (FliesAsSaid u.group) (sym (says pairs ids)) flight;
     addresses = addresses_are same;
     path = unheard;
     rises = subst (λ (z : TransmitValue). RiseLittle z u) (half_is same) (rises_by x u h

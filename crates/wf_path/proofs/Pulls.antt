@@ -21,7 +21,9 @@ use Rattle.wf_def_world.specs.Step.{step}
 use Rattle.wf_send_half_model.specs.Half.{TransmitValue, is_ahead_of}
 use Rattle.wf_send_half_model.specs.Standing.{StandsFor, Meets}
 use Rattle.wf_send_half_model.proofs.Readers.{class_count_same, ahead_same}
+use Rattle.wf_send_parts.specs.Group.{GroupValue}
 use Rattle.wf_path.specs.Addresses.{Addresses}
+use Rattle.wf_path.specs.Group.{FliesAsSaid}
 use Rattle.wf_send_half.specs.Replies.{bodies_sent}
 use Rattle.wf_path.specs.Jobs.{changes_nothing, is_refused}
 use Rattle.wf_path.specs.Paths.{PathValue, IsPath, RiseLittle, IsAnswered}
@@ -41,7 +43,7 @@ same_said w c l x (brief.Left dropped) pairs ids k e = e
 same_said w c l x brief.Set pairs ids k e = e
 same_said w c l x (brief.Now now) pairs ids k e = e
 same_said w c l x (brief.Accepted id dropped) pairs ids k e = e
-same_said w c l x (brief.Send exchange station tid air request kind more) pairs ids k e = e
+same_said w c l x (brief.Send exchange station tid air request kind more eosp) pairs ids k e = e
 same_said w c l x brief.Released pairs ids (Sends sent) e = absurd (let k = e ∙ sent.is in cc k)
 same_said w c l x brief.Released pairs ids (Refuses r is how) e = absurd (let k = e ∙ how in cc k)
 same_said w c l x (brief.Ba start b0 b1 b2 b3 wide) pairs ids k e = e
@@ -59,6 +61,7 @@ same_said w c l x brief.Freed pairs ids k e = e
 same_said w c l x (brief.Ceased dropped) pairs ids (Sends sent) e = absurd (let k = e ∙ sent.is in cc k)
 same_said w c l x (brief.Ceased dropped) pairs ids (Refuses r is how) e = absurd (let k = e ∙ how in cc k)
 same_said w c l x (brief.Group answer) pairs ids k e = e
+same_said w c l x (brief.Service answer) pairs ids k e = e
 same_said w c l x (brief.Polled class) pairs ids k e = e
 same_said w c l x (brief.Charged deficit) pairs ids k e = e
 same_said w c l x (brief.Reaped id fate) pairs ids k e = e
@@ -128,7 +131,7 @@ refused_only (brief.Left dropped) pairs ids r is = absurd (cc is)
 refused_only brief.Set pairs ids r is = absurd (cc is)
 refused_only (brief.Now now) pairs ids r is = absurd (cc is)
 refused_only (brief.Accepted id dropped) pairs ids r is = absurd (cc is)
-refused_only (brief.Send exchange station tid air request kind more) pairs ids r is = absurd (cc is)
+refused_only (brief.Send exchange station tid air request kind more eosp) pairs ids r is = absurd (cc is)
 refused_only brief.Released pairs ids r is = absurd (cc is)
 refused_only (brief.Ba start b0 b1 b2 b3 wide) pairs ids r is = absurd (cc is)
 refused_only (brief.Done acked waiting failed) pairs ids r is = absurd (cc is)
@@ -147,6 +150,7 @@ refused_only brief.Begun pairs ids r is = absurd (cc is)
 refused_only brief.Freed pairs ids r is = absurd (cc is)
 refused_only (brief.Ceased dropped) pairs ids r is = absurd (cc is)
 refused_only (brief.Group answer) pairs ids r is = absurd (cc is)
+refused_only (brief.Service answer) pairs ids r is = absurd (cc is)
 refused_only (brief.Refused reason) pairs ids r is = ap brief.Refused (cc is)
 
 -- a pull that is refused neither as Full nor as Ahead is refused as Idle
@@ -182,6 +186,15 @@ kept_if_refused v y w bodies after c l b pairs ids h m full ahead idle is =
         idle (refused_only b pairs ids Idle
         (m.reply ∙ idle_then w c l same behind (ap is_refused (sym m.reply) ∙ is)))
 
+-- its reply is about no group frame
+no_group : (g : GroupValue) (w : World) (c : Class) (l : Limits) →
+    FliesAsSaid g (step w (Asked (Pull c l))).reply
+no_group g w c l = from (says w c l)
+  where
+    from : Says w c l (step w (Asked (Pull c l))).reply → FliesAsSaid g (step w (Asked (Pull c l))).reply
+    from (Sends sent) = subst (FliesAsSaid g) (sym sent.is) tt
+    from (Refuses r h how) = subst (FliesAsSaid g) (sym how) tt
+
 -- ---- a whole pull
 
 -- x is the half of the path p, a are its addresses, and u is the half after the pull
@@ -212,6 +225,8 @@ module _ (x : TransmitValue) (h : IsPath x) (c : Class) (l : Limits) (b : Brief)
         (kept_if_refused x u h.world h.bodies _ c l b pairs ids h.stands
         (pull_met h.world h.bodies c l u b pairs ids met) full ahead
         (idle (ap (λ (z : TransmitValue). z.config.pending) (half_is same) ∙ on)) is) ∙ same;
+    flight = λ ids. subst (FliesAsSaid u.group) (sym (pull_met h.world h.bodies c l u b pairs ids met).reply)
+        (no_group u.group h.world c l);
     addresses = addresses_are same;
     path = unheard;
     rises = subst (λ (z : TransmitValue). RiseLittle z u) (half_is same) (rises_by x u h

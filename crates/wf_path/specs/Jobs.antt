@@ -60,6 +60,7 @@ as_ask (path.Begin station tid window) = machine.Begin station tid window
 as_ask (path.Free station tid) = machine.Free station tid
 as_ask (path.Cease station tid) = machine.Cease station tid
 as_ask (path.Group ask) = machine.Group ask
+as_ask (path.Service ask) = machine.Service ask
 
 -- the machine's job that a path's job is
 abbrev pub job_of : PathJob → Job
@@ -98,9 +99,9 @@ times_in (pair ∷ pairs) id = (if id == pair.0 then 1 else 0) + times_in pairs 
 
 -- how often a reply sends the frame of an id
 abbrev pub times_sent : ReplyNote → ℕ → ℕ
-times_sent (Send exchange station tid air (Mpdus pairs) more) id = times_in pairs id
-times_sent (Send exchange station tid air (Plain pairs) more) id = times_in pairs id
-times_sent (Send exchange station tid air (Batch ids) more) id = count_by (λ i. i == id) ids
+times_sent (Send exchange station tid air (Mpdus pairs) more eosp) id = times_in pairs id
+times_sent (Send exchange station tid air (Plain pairs) more eosp) id = times_in pairs id
+times_sent (Send exchange station tid air (Batch ids) more eosp) id = count_by (λ i. i == id) ids
 times_sent reply id = 0
 
 -- The machine's reply to a call that a path answers so. A path has no receivers: when an agreement ends, it

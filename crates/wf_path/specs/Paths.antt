@@ -14,6 +14,7 @@ use Rattle.wf_send_half_model.specs.Half.{TransmitValue}
 use Rattle.wf_send_half_model.specs.Standing.{StandsFor, Meets}
 use Rattle.wf_send_half.specs.Half.{HasUnheardWorld}
 use Rattle.wf_path.specs.Addresses.{Addresses}
+use Rattle.wf_path.specs.Group.{FliesAsSaid}
 use Rattle.wf_path.specs.Jobs.{MayCall, bodies_after, changes_nothing, is_refused, with_released}
 use Rattle.wf_path.specs.declared.job.Job.TheVariants.{Call}
 
@@ -58,6 +59,7 @@ pub record IsAnswered (p : PathValue) (ask : Ask) (q : PathValue) (brief : Brief
   pub refused : (ids : List ℕ) → changes_nothing (reply_with brief pairs ids) ≡ true → q ≡ p
   pub pending : (ids : List ℕ) → p.half.config.pending ≡ 1 → is_refused (reply_with brief pairs ids) ≡ true →
       q ≡ p
+  pub flight : (ids : List ℕ) → FliesAsSaid q.half.group (reply_with brief pairs ids)
   pub addresses : q.addresses ≡ p.addresses
   pub path : IsPath q.half
   pub rises : RiseLittle p.half q.half

@@ -2,7 +2,9 @@
 --
 -- The world `w` has the exchange, `bodies` has the frame of each id as it was accepted, and `a` has the
 -- addresses.
-use Rattle.std.specs.Prelude.{ℕ, ◌+◌, nat_lt, Bool, true, false, not, ◌&&◌, List, [], ◌∷◌, ◌++◌, map, slice_get, Option, Some, None, option_and_then, option_map, if◌then◌else◌}
+use Rattle.std.specs.Prelude.{ℕ, ◌+◌, ◌==◌, nat_lt, Bool, true, false, not, ◌&&◌, List, [], ◌∷◌, ◌++◌, map, slice_get, Option, Some, None, option_and_then, option_map, if◌then◌else◌}
+use Rattle.std.specs.List.{last_or}
+use Rattle.std.specs.Option.{option_map_or}
 use Rattle.wf_frame.specs.Frames.{FrameValue}
 use Rattle.wf_def_air.specs.Airtime.{fast_mbps, sifs, ack_time, answer_time}
 use Rattle.wf_def_agreement.specs.Session.{slot, start_of}
@@ -29,9 +31,13 @@ duration plain = sifs + (if plain then ack_time fast_mbps else answer_time fast_
 abbrev pub is_retried : World → ℕ → ℕ → ℕ → Bool
 is_retried w s t n = nat_lt 0 (slot (session w s t) n).attempts
 
+-- whether m is the last frame of exchange x
+abbrev pub is_last_frame : Exchange → Mpdu → Bool
+is_last_frame x m = option_map_or (λ l. l.number == m.number) (last_or None (mpdus_of x.content)) false
+
 -- the header of a data transmission from the distribution system (8.3.2.1): to the station, from the access
 -- point, with the source of its frame, the sequence number modulo 4096, and the More Data bit of its exchange
--- (8.2.4.1.8)
+-- (8.2.4.1.8). If the exchange ends a service period, its last frame has the EOSP bit (8.2.4.5.3).
 abbrev pub header_of : Addresses → World → (ℕ → FrameValue) → Exchange → Mpdu → Header
 header_of a w bodies x m = record {
   kind = QosData;
@@ -46,6 +52,7 @@ header_of a w bodies x m = record {
   a3 = (bodies m.id).source;
   seq = on_air m.number;
   tid = x.tid;
+  eosp = x.eosp && is_last_frame x m;
 }
 
 -- the octets of a data transmission: the header, and the body of its frame

@@ -5,7 +5,7 @@ ghost use Rattle.wf_path.specs.Jobs.{job_of, ask_about};
 ghost use Rattle.wf_path.specs.declared.asks.PathAsk.TheVariants.{Join, Offload, Plain, Begin};
 ghost use Rattle.wf_path.specs.declared.job.Job.TheVariants.{Call};
 
-use wf_frame::{Ask, AskedRate, Class, GroupAsk, Limits};
+use wf_frame::{Ask, AskedRate, Class, GroupAsk, Limits, ServiceAsk};
 use wf_queue_parts::chain::Parcel;
 
 /// A call of a path.
@@ -23,7 +23,7 @@ pub enum PathJob {
     Reap,
 }
 
-/// A call of a path that brings and returns no frame, and whose answer has no lists: one of twenty-two. An
+/// A call of a path that brings and returns no frame, and whose answer has no lists: one of twenty-three. An
 /// argument outside its given range is refused.
 #[derive(Clone, Copy, Debug, PartialEq, Eq)]
 pub enum PathAsk {
@@ -154,6 +154,10 @@ pub enum PathAsk {
     /// A call about group frames. One that is accepted so has the tag 0, and all stations are its
     /// destination; `Path::accept_group` accepts one with a tag and a destination.
     Group(GroupAsk),
+    /// A call about the service periods of a station that sleeps (U-APSD; IEEE 802.11-2012, 10.2.1.5). Set
+    /// is refused as BadStation, BadClasses, NoStation or Asleep; Trigger as BadStation, NoStation, Awake,
+    /// Polled or Nothing; End as BadStation, NoStation or Nothing.
+    Service(ServiceAsk),
 }
 
 /// A call of the machine about an open exchange. A path does not take it: it has no receivers, and
@@ -306,6 +310,7 @@ impl PathJob {
             Ask::Free { station, tid } => Ok(PathJob::Call(PathAsk::Free { station, tid })),
             Ask::Cease { station, tid } => Ok(PathJob::Call(PathAsk::Cease { station, tid })),
             Ask::Group(ask) => Ok(PathJob::Call(PathAsk::Group(ask))),
+            Ask::Service(ask) => Ok(PathJob::Call(PathAsk::Service(ask))),
         }
     }
 }

@@ -10,6 +10,7 @@ ghost use Rattle.wf_def_world.specs.Step.{step};
 ghost use Rattle.wf_law_driver.specs.Unheard.{IsUnheard};
 ghost use Rattle.wf_send_half.specs.Replies.{reaped_reply};
 ghost use Rattle.wf_send_half_model.specs.Standing.{StandsFor, Meets};
+ghost use Rattle.wf_path.specs.Group.{FliesAsSaid};
 ghost use Rattle.wf_path.specs.Jobs.{as_ask, job_of, note_of, MayCall, bodies_after, frame_given_back, changes_nothing, is_refused, with_released};
 ghost use Rattle.wf_path.specs.Paths.{IsPath, IsSmall, RiseLittle, IsAnsweredBriefly};
 
@@ -35,6 +36,9 @@ impl Path {
             self.new ≡ self.old }
         ensures unheard { (w : World) (bodies : ℕ → FrameValue) → StandsFor self.old.half w bodies →
             IsUnheard w → IsUnheard (step w (note_of (job_of job))).world }
+
+        // the header of a group frame has the number and the More Data bit of the answer to its pull
+        ensures group_flight { FliesAsSaid self.new.half.group (reply_of answer.new) }
         ensures addresses { self.new.addresses ≡ self.old.addresses }
         ensures path { IsPath self.new.half }
         ensures rises { RiseLittle self.old.half self.new.half }
@@ -118,6 +122,7 @@ impl Path {
             PathAsk::Free { station, tid } => self.free(station, tid),
             PathAsk::Cease { station, tid } => self.cease(station, tid),
             PathAsk::Group(ask) => self.group(ask),
+            PathAsk::Service(ask) => self.service(ask),
         }
     }
 

@@ -1,10 +1,11 @@
 //! The frame and the header of a data transmission.
 
-ghost use Rattle.std.specs.Prelude.{◌≡◌, ℕ, true};
+ghost use Rattle.std.specs.Prelude.{◌≡◌, ◌+◌, ◌==◌, ◌&&◌, ℕ, true};
 ghost use Rattle.wf_frame.specs.Frames.{FrameValue};
 ghost use Rattle.wf_octets.specs.HeaderLayout.{IsPlain};
 ghost use Rattle.wf_octets.specs.declared.header.header.Kind.TheVariants.{QosData};
 ghost use Rattle.wf_def_world.specs.World.{World, Exchange, Mpdu};
+ghost use Rattle.wf_send_parts.specs.Exchanges.{transmissions_of};
 ghost use Rattle.wf_path.specs.Transmissions.{duration, header_of};
 ghost use Rattle.wf_path.specs.Flights.{IsInFlight, Flies};
 
@@ -40,6 +41,13 @@ pub(crate) fn frame_of<'a>(half: &'a Transmit, open: &Open, index: u16, seq: Seq
     half.window(open.station, open.tid).frame(seq)
 }
 
+/// Returns the EOSP bit of a data transmission: its exchange ends a service period, and it is the last one.
+fn ends_service(open: &Open, index: u16) -> bool
+    ensures { result ≡ (open.now.eosp && (index + 1 == transmissions_of open.now.sending)) }
+{
+    open.eosp && usize::from(index) + 1 == usize::from(open.count())
+}
+
 /// Returns the header of a transmission that carries this number.
 pub(crate) fn header_of(
     half: &Transmit,
@@ -69,5 +77,6 @@ pub(crate) fn header_of(
         a3: frame_of(half, open, index, seq).source(),
         seq,
         tid: open.tid,
+        eosp: ends_service(open, index),
     }
 }

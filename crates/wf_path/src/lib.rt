@@ -31,6 +31,7 @@ mod job;
 mod path;
 mod queues;
 mod reading;
+mod service;
 mod small;
 mod standing;
 mod traffic;

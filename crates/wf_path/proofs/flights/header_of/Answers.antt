@@ -1,12 +1,12 @@
 -- Proves what `header_of` promises: each field comes from a part of the half that agrees with the world.
-use Rattle.std.proofs.Common.{◌≡◌, refl, sym, ap, ◌∙◌, subst, true, nat_lt, arith}
+use Rattle.std.proofs.Common.{◌≡◌, refl, sym, ap, ap₂, ◌∙◌, subst, true, ◌&&◌, nat_lt, arith}
 use Rattle.wf_frame.specs.Frames.{FrameValue}
 use Rattle.wf_send_parts.specs.declared.exchanges.opened.Open.{Open}
 use Rattle.wf_path.specs.Addresses.{address_in, bss_in}
 use Rattle.wf_send_parts.specs.Window.{WindowValue, WindowStandsFor, state_at, holds_parcel}
 use Rattle.wf_def_world.specs.World.{session}
-use Rattle.wf_path.specs.Transmissions.{duration, is_retried}
-use Rattle.wf_path.proofs.Flying.{window_stands, is_number, air, some_within, some_low, some_held}
+use Rattle.wf_path.specs.Transmissions.{duration, is_retried, is_last_frame}
+use Rattle.wf_path.proofs.Flying.{window_stands, is_number, air, last, some_within, some_low, some_held}
 use Rattle.wf_path.proofs.flights.header_of.Goals as goal
 
 pub window-requires-clause-within : goal.window-requires-clause-within
@@ -46,4 +46,7 @@ returns-clause-header c w bodies x m f =
     let source = c.source.ensures.exact
     ∙ ap (λ (g : FrameValue). g.source) (c.frame_of.ensures w bodies x m f) in
     let lasts = c.duration_of.ensures ∙ ap (λ (k : Open). duration k.plain) f.same in
-    cc (retry, more, lasts, tid, recipient, transmitter, seq, source)
+    let ends : c.ends_service.result ≡ (x.eosp && is_last_frame x m) =
+    c.ends_service.ensures ∙ ap₂ ◌&&◌ (ap (λ (k : Open). k.eosp) f.same)
+    (last c.args.half.now c.args.open.now c.args.index w bodies x m f) in
+    cc (retry, more, lasts, tid, recipient, transmitter, seq, source, ends)

@@ -28,6 +28,7 @@ open-requires-clause-room c =
       charge = s.air;
       part = part_sent s.request s.kind a.pairs;
       more = s.more;
+      eosp = s.eosp;
       is = ap (λ (b : Brief). reply_with b a.pairs a.ids) s.is;
     } in
     (mark_fits _ after (reply_of a) w bodies (bodies_sent (reply_of a) bodies) c.args.class c.args.limits j
@@ -47,6 +48,7 @@ open-requires-clause-above c =
       charge = s.air;
       part = part_sent s.request s.kind a.pairs;
       more = s.more;
+      eosp = s.eosp;
       is = ap (λ (b : Brief). reply_with b a.pairs a.ids) s.is;
     } in
     (mark_fits _ after (reply_of a) w bodies (bodies_sent (reply_of a) bodies) c.args.class c.args.limits j
@@ -65,6 +67,7 @@ returns-in-Send-clause-meets c = λ w bodies i.
       charge = s.air;
       part = part_sent s.request s.kind a.pairs;
       more = s.more;
+      eosp = s.eosp;
       is = ap (λ (b : Brief). reply_with b a.pairs a.ids) s.is;
     } in
     subst (λ (ms : List Mark). let u : EngineValue =

@@ -118,3 +118,9 @@ pub returns-in-Group : goal.returns-in-Group
 returns-in-Group c =
     subst (λ (ask : PathAsk). IsAnsweredBriefly c.args.self.now (as_ask ask) c.group.new.self c.group.result)
     (sym c.in-Group.is) c.group.ensures
+
+pub returns-in-Service : goal.returns-in-Service
+returns-in-Service c =
+    subst (λ (ask : PathAsk). IsAnsweredBriefly c.args.self.now (as_ask ask) c.service.new.self
+    c.service.result)
+    (sym c.in-Service.is) c.service.ensures

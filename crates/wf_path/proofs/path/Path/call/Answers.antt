@@ -4,9 +4,11 @@ use Rattle.std.proofs.Common.{◌≡◌, ◌∙◌, ap, sym, subst, rules}
 use Rattle.wf_path.specs.declared.job.Job.TheVariants.{Call}
 use Rattle.wf_frame.specs.declared.notes.Ask.TheVariants.{Pull, Reap}
 use Rattle.wf_path.specs.Jobs.{as_ask, job_of}
+use Rattle.wf_path.specs.Group.{FliesAsSaid}
 use Rattle.wf_path.specs.Paths.{IsAnswered, RiseLittle}
 use Rattle.wf_path.proofs.CallAnswers.{refused_so}
 use Rattle.wf_path.proofs.Given.{accepted_rises, reaped_meets, reaped_rises, reaped_back, reaped_refused}
+use Rattle.wf_path.proofs.GroupFlights.{reaped_flies}
 use Rattle.wf_path.proofs.Pulls.{pull_answered}
 use Rattle.wf_path.proofs.Jobs.{none_back, asked_meets, unheard_after}
 use Rattle.wf_path.proofs.Rises.{no_rise}
@@ -26,6 +28,7 @@ returns-in-Call c =
       refused = answered.refused c.clear.new.self;
       pending = answered.pending c.clear.new.self;
       unheard = unheard_after c.args.self.now.half c.args.job;
+      group_flight = answered.flight c.clear.new.self;
       addresses = answered.addresses;
       path = answered.path;
       rises = answered.rises;
@@ -53,6 +56,7 @@ returns-in-Pull c =
       refused = answered.refused c.args.answer.now.ids;
       pending = answered.pending c.args.answer.now.ids;
       unheard = unheard_after c.args.self.now.half c.args.job;
+      group_flight = answered.flight c.args.answer.now.ids;
       addresses = answered.addresses;
       path = answered.path;
       rises = answered.rises;
@@ -85,6 +89,9 @@ returns-in-Reap c =
       refused = λ is. nothing_left (refused_so _ is);
       pending = λ on is. nothing_left is;
       unheard = unheard_after c.args.self.now.half c.args.job;
+      group_flight = subst (FliesAsSaid c.reap-reaped.new.self.group)
+          (sym (c.reaped_brief-answer.ensures c.args.answer.now.pairs c.args.answer.now.ids))
+          (reaped_flies c.reap-reaped.new.self.group c.reap-reaped.result);
       addresses = addresses_are c.self-in-Reap.view_is;
       path = c.reap-reaped.ensures.unheard;
       rises = reaped_rises c.self-in-Reap.inside.half c.self-in-Reap.invariant

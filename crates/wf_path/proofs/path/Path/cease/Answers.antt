@@ -17,5 +17,5 @@ returns c = elim c.match-cease.branch [
       (reply.Refused w.in-Err.reason) c.cease.new.self w.in-Err.ensures.meets c.cease.ensures.unheard
       c.self.inside.addresses c.args.self.now c.self.view_is c.match-cease.result
       (λ pairs ids. ap (λ (b : Brief). reply_with b pairs ids) w.result-is) (λ _ _. refl) (λ _. refl)
-      (λ _. w.in-Err.ensures.refused)
+      (λ _. w.in-Err.ensures.refused) tt
 ]

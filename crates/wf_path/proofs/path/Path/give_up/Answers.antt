@@ -14,10 +14,10 @@ returns c = elim c.match-give_up.branch [
       reply.Marked c.give_up.new.self w.in-Ok.ensures.meets c.give_up.ensures.unheard c.self.inside.addresses
       c.args.self.now c.self.view_is c.match-give_up.result
       (λ pairs ids. ap (λ (b : Brief). reply_with b pairs ids) w.result-is)
-      (λ _ _. refl) (λ _. refl) (λ e. absurd (cc e))
+      (λ _ _. refl) (λ _. refl) (λ e. absurd (cc e)) tt
   | in-Err w ↦ answered_briefly c.self.inside.half c.self.invariant (GiveUp c.args.exchange c.args.index)
       (reply.Refused w.in-Err.reason) c.give_up.new.self w.in-Err.ensures.meets c.give_up.ensures.unheard
       c.self.inside.addresses c.args.self.now c.self.view_is c.match-give_up.result
       (λ pairs ids. ap (λ (b : Brief). reply_with b pairs ids) w.result-is) (λ _ _. refl) (λ _. refl)
-      (λ _. w.in-Err.ensures.refused)
+      (λ _. w.in-Err.ensures.refused) tt
 ]

@@ -5,6 +5,7 @@ use Rattle.wf_frame.specs.declared.answers.Brief.{Brief}
 use Rattle.wf_frame.specs.declared.notes.Ask.TheVariants.{Group}
 use Rattle.wf_frame.specs.declared.notes.ReplyNote.TheVariants as reply
 use Rattle.wf_path.proofs.CallAnswers.{answered_briefly}
+use Rattle.wf_path.proofs.GroupFlights.{pulled_flight}
 use Rattle.wf_path.proofs.path.Path.group.Goals as goal
 use Rattle.wf_path.proofs.path.Path.group.Goals.{in-Ok, in-Err}
 
@@ -14,9 +15,12 @@ returns c = elim c.match-group.branch [
       c.group.new.self w.in-Ok.ensures.meets c.group.ensures.unheard c.self.inside.addresses c.args.self.now
       c.self.view_is c.match-group.result (λ pairs ids. ap (λ (b : Brief). reply_with b pairs ids) w.result-is)
       (λ _ _. refl) (λ _. refl) (λ e. absurd (cc e))
+      (pulled_flight c.self.inside.half c.group.new.self c.self.invariant c.args.ask w.in-Ok.answer
+      (w.in-Ok.ensures.meets c.self.invariant.world c.self.invariant.bodies c.self.invariant.stands)
+      w.in-Ok.ensures.changed)
   | in-Err w ↦ answered_briefly c.self.inside.half c.self.invariant (Group c.args.ask)
       (reply.Refused w.in-Err.reason) c.group.new.self w.in-Err.ensures.meets c.group.ensures.unheard
       c.self.inside.addresses c.args.self.now c.self.view_is c.match-group.result
       (λ pairs ids. ap (λ (b : Brief). reply_with b pairs ids) w.result-is) (λ _ _. refl) (λ _. refl)
-      (λ _. w.in-Err.ensures.refused)
+      (λ _. w.in-Err.ensures.refused) tt
 ]

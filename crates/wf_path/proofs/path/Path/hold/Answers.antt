@@ -14,10 +14,10 @@ returns c = elim c.match-hold.branch [
       (reply.Held w.in-Ok.start) c.hold.new.self w.in-Ok.ensures.meets c.hold.ensures.unheard c.self.inside.addresses
       c.args.self.now c.self.view_is c.match-hold.result
       (λ pairs ids. ap (λ (b : Brief). reply_with b pairs ids) w.result-is) (λ _ _. refl) (λ _. refl)
-      (λ e. absurd (cc e))
+      (λ e. absurd (cc e)) tt
   | in-Err w ↦ answered_briefly c.self.inside.half c.self.invariant (Hold c.args.station c.args.tid)
       (reply.Refused w.in-Err.reason) c.hold.new.self w.in-Err.ensures.meets c.hold.ensures.unheard
       c.self.inside.addresses c.args.self.now c.self.view_is c.match-hold.result
       (λ pairs ids. ap (λ (b : Brief). reply_with b pairs ids) w.result-is) (λ _ _. refl) (λ _. refl)
-      (λ _. w.in-Err.ensures.refused)
+      (λ _. w.in-Err.ensures.refused) tt
 ]

@@ -14,11 +14,11 @@ returns c = elim c.match-join.branch [
       c.args.start c.args.exponent c.args.weight) (reply.Joined)
       c.join.new.self w.in-Ok.ensures.meets c.join.ensures.unheard c.self.inside.addresses c.args.self.now
       c.self.view_is c.match-join.result (λ pairs ids. ap (λ (b : Brief). reply_with b pairs ids) w.result-is)
-      (λ _ _. refl) (λ _. refl) (λ e. absurd (cc e))
+      (λ _ _. refl) (λ _. refl) (λ e. absurd (cc e)) tt
   | in-Err w ↦ answered_briefly c.self.inside.half c.self.invariant (Join c.args.station c.args.window
       c.args.start c.args.exponent c.args.weight)
       (reply.Refused w.in-Err.reason) c.join.new.self w.in-Err.ensures.meets c.join.ensures.unheard
       c.self.inside.addresses c.args.self.now c.self.view_is c.match-join.result
       (λ pairs ids. ap (λ (b : Brief). reply_with b pairs ids) w.result-is) (λ _ _. refl) (λ _. refl)
-      (λ _. w.in-Err.ensures.refused)
+      (λ _. w.in-Err.ensures.refused) tt
 ]

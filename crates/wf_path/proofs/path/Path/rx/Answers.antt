@@ -21,11 +21,11 @@ returns c = elim c.match-rx.branch [
       c.rx.new.self w.in-Ok.ensures.meets c.rx.ensures.unheard c.self.inside.addresses c.args.self.now
       c.self.view_is c.match-rx.result (λ pairs ids. ap (λ (b : Brief). reply_with b pairs ids) w.result-is ∙
       ap reply.Charged plain)
-      (λ _ _. refl) (λ _. refl) (λ e. absurd (cc e))
+      (λ _ _. refl) (λ _. refl) (λ e. absurd (cc e)) tt
   | in-Err w ↦ answered_briefly c.self.inside.half c.self.invariant (Rx c.args.station c.args.class
       c.args.air)
       (reply.Refused w.in-Err.reason) c.rx.new.self w.in-Err.ensures.meets c.rx.ensures.unheard
       c.self.inside.addresses c.args.self.now c.self.view_is c.match-rx.result
       (λ pairs ids. ap (λ (b : Brief). reply_with b pairs ids) w.result-is) (λ _ _. refl) (λ _. refl)
-      (λ _. w.in-Err.ensures.refused)
+      (λ _. w.in-Err.ensures.refused) tt
 ]

@@ -14,10 +14,10 @@ returns c = elim c.match-start.branch [
       c.start.new.self w.in-Ok.ensures.meets c.start.ensures.unheard c.self.inside.addresses c.args.self.now
       c.self.view_is c.match-start.result (λ pairs ids. ap (λ (b : Brief). reply_with b pairs ids)
       w.result-is)
-      (λ _ _. refl) (λ _. refl) (λ e. absurd (cc e))
+      (λ _ _. refl) (λ _. refl) (λ e. absurd (cc e)) tt
   | in-Err w ↦ answered_briefly c.self.inside.half c.self.invariant (Start c.args.station)
       (reply.Refused w.in-Err.reason) c.start.new.self w.in-Err.ensures.meets c.start.ensures.unheard
       c.self.inside.addresses c.args.self.now c.self.view_is c.match-start.result
       (λ pairs ids. ap (λ (b : Brief). reply_with b pairs ids) w.result-is) (λ _ _. refl) (λ _. refl)
-      (λ _. w.in-Err.ensures.refused)
+      (λ _. w.in-Err.ensures.refused) tt
 ]

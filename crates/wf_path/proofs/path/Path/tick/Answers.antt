@@ -13,10 +13,10 @@ returns c = elim c.match-tick.branch [
   | in-Ok w ↦ answered_briefly c.self.inside.half c.self.invariant (Tick c.args.by) (reply.Now w.in-Ok.now)
       c.tick.new.self w.in-Ok.ensures.meets c.tick.ensures.unheard c.self.inside.addresses c.args.self.now
       c.self.view_is c.match-tick.result (λ pairs ids. ap (λ (b : Brief). reply_with b pairs ids) w.result-is)
-      (λ _ _. refl) (λ _. refl) (λ e. absurd (cc e))
+      (λ _ _. refl) (λ _. refl) (λ e. absurd (cc e)) tt
   | in-Err w ↦ answered_briefly c.self.inside.half c.self.invariant (Tick c.args.by)
       (reply.Refused w.in-Err.reason) c.tick.new.self w.in-Err.ensures.meets c.tick.ensures.unheard
       c.self.inside.addresses c.args.self.now c.self.view_is c.match-tick.result
       (λ pairs ids. ap (λ (b : Brief). reply_with b pairs ids) w.result-is) (λ _ _. refl) (λ _. refl)
-      (λ _. w.in-Err.ensures.refused)
+      (λ _. w.in-Err.ensures.refused) tt
 ]

@@ -13,10 +13,10 @@ returns c = elim c.match-wake.branch [
   | in-Ok w ↦ answered_briefly c.self.inside.half c.self.invariant (Wake c.args.station) (reply.Woken)
       c.wake.new.self w.in-Ok.ensures.meets c.wake.ensures.unheard c.self.inside.addresses c.args.self.now
       c.self.view_is c.match-wake.result (λ pairs ids. ap (λ (b : Brief). reply_with b pairs ids) w.result-is)
-      (λ _ _. refl) (λ _. refl) (λ e. absurd (cc e))
+      (λ _ _. refl) (λ _. refl) (λ e. absurd (cc e)) tt
   | in-Err w ↦ answered_briefly c.self.inside.half c.self.invariant (Wake c.args.station)
       (reply.Refused w.in-Err.reason) c.wake.new.self w.in-Err.ensures.meets c.wake.ensures.unheard
       c.self.inside.addresses c.args.self.now c.self.view_is c.match-wake.result
       (λ pairs ids. ap (λ (b : Brief). reply_with b pairs ids) w.result-is) (λ _ _. refl) (λ _. refl)
-      (λ _. w.in-Err.ensures.refused)
+      (λ _. w.in-Err.ensures.refused) tt
 ]

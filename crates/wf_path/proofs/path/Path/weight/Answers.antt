@@ -14,10 +14,10 @@ returns c = elim c.match-weight.branch [
       reply.Set
       c.weight.new.self w.in-Ok.ensures.meets c.weight.ensures.unheard c.self.inside.addresses c.args.self.now
       c.self.view_is c.match-weight.result (λ pairs ids. ap (λ (b : Brief). reply_with b pairs ids)
-      w.result-is) (λ _ _. refl) (λ _. refl) (λ e. absurd (cc e))
+      w.result-is) (λ _ _. refl) (λ _. refl) (λ e. absurd (cc e)) tt
   | in-Err w ↦ answered_briefly c.self.inside.half c.self.invariant (Weight c.args.station c.args.weight)
       (reply.Refused w.in-Err.reason) c.weight.new.self w.in-Err.ensures.meets c.weight.ensures.unheard
       c.self.inside.addresses c.args.self.now c.self.view_is c.match-weight.result
       (λ pairs ids. ap (λ (b : Brief). reply_with b pairs ids) w.result-is) (λ _ _. refl) (λ _. refl)
-      (λ _. w.in-Err.ensures.refused)
+      (λ _. w.in-Err.ensures.refused) tt
 ]
