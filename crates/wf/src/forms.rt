@@ -9,8 +9,8 @@ use wf_io::Line;
 use wf_run::help::Command;
 use wf_trace::{Arg, next_word};
 
-/// The most forms that a command has: those of a trace's 39 calls, of its head and of its end.
-const MOST_FORMS: usize = 41;
+/// The most forms that a command has: those of a trace's 42 calls, of its head and of its end.
+const MOST_FORMS: usize = 44;
 
 /// The most arguments that a form has.
 const MOST_ARGS: usize = 6;

@@ -98,7 +98,7 @@ group_frames_short w few (answer.Done id) = tt
 frames_short : (w : World) → IsStocked greatest_body w → w.config.stations ≤ 256 → (note : Note)
     (answered : ReplyNote) →
     AreShort (frames_by w (samples w) note answered)
-frames_short w all few note (reply.Send e s t air part more) = sent_short w all e
+frames_short w all few note (reply.Send e s t air part more eosp) = sent_short w all e
 frames_short w all few note (reply.Ba start b0 b1 b2 b3 wide) =
     acks_short start b0 b1 b2 b3 wide (option_and_then (exchange w) (exchange_answered note))
 frames_short w all few note reply.Ack = (lit≤ tt, tt)

@@ -36,6 +36,19 @@ line_of_three word head part more =
     sym (append_assoc ((word ++ spaced head) ++ spaced part) (spaced more) (10 ∷ []))
     ∙ ap (λ l. l ++ 10 ∷ []) (joined_three word head part more)
 
+-- The same for four rows.
+pub line_of_four : (word : List ℕ) (head part more last : List (List ℕ)) →
+    ((word ++ spaced head) ++ spaced part) ++ (spaced (more ++ last) ++ 10 ∷ [])
+    ≡ join_with_byte 32 (word ∷ (head ++ ((part ++ more) ++ last))) ++ 10 ∷ []
+line_of_four word head part more last =
+    line_of_three word head part (more ++ last)
+    ∙ ap (λ ws. join_with_byte 32 (word ∷ (head ++ ws)) ++ 10 ∷ []) (sym (append_assoc part more last))
+
+-- Two rows at the end of a line, after other text.
+pub end_of_two : (out : List ℕ) (one two : List (List ℕ)) →
+    (out ++ spaced one) ++ (spaced two ++ 10 ∷ []) ≡ out ++ (spaced (one ++ two) ++ 10 ∷ [])
+end_of_two out one two = rw (spaced-append one two) (simp append_assoc)
+
 -- A word and two rows, as a line after other text.
 pub line_of_two : (out word : List ℕ) (head more : List (List ℕ)) →
     ((out ++ word) ++ spaced head) ++ (spaced more ++ 10 ∷ [])

@@ -94,9 +94,9 @@ after_sample v w (Give f) (reply.Accepted given dropped) bodies all brought =
 after_sample v w (Call (Pull class l)) answered bodies all brought = of answered
   where
     of : (r : ReplyNote) → (id : ℕ) → IsSample (bodies_sent r bodies id)
-    of (reply.Send exchange station tid air (Mpdus pairs) more) = sent_samples pairs bodies all
-    of (reply.Send exchange station tid air (Plain pairs) more) = sent_samples pairs bodies all
-    of (reply.Send exchange station tid air (Batch ids) more) =
+    of (reply.Send exchange station tid air (Mpdus pairs) more eosp) = sent_samples pairs bodies all
+    of (reply.Send exchange station tid air (Plain pairs) more eosp) = sent_samples pairs bodies all
+    of (reply.Send exchange station tid air (Batch ids) more eosp) =
         sent_samples (map (λ id. (id, 0)) ids) bodies all
     of _ = all
 after_sample v w (Call (Unsent e index)) answered bodies all brought = of (exchange w e) answered
@@ -146,6 +146,6 @@ module _ (v : TransmitValue) (w : World) (bodies : ℕ → FrameValue) (stands :
 
   pub frames_same : (note : Note) (answered : ReplyNote) →
       frames_by w bodies note answered ≡ frames_by w (samples w) note answered
-  frames_same note (reply.Send e s t air part more) = sent_same e
+  frames_same note (reply.Send e s t air part more eosp) = sent_same e
   frames_same note (reply.Ba start b0 b1 b2 b3 wide) = refl
   frames_same note _ = refl

@@ -20,6 +20,7 @@ ack_header = record {
   a3 = no_address;
   seq = 0;
   tid = 0;
+  eosp = false;
 }
 
 -- An Ack: ten octets before the frame check sequence.

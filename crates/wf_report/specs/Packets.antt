@@ -52,7 +52,7 @@ frames_of_group w (answer.Done id) = []
 -- exchange that begins, by index, or the BlockAck or the Ack of the exchange that is answered, or a beacon or
 -- a group frame.
 abbrev pub frames_by : World → (ℕ → FrameValue) → Note → ReplyNote → List (List ℕ)
-frames_by w bodies note (Send e s t air part more) = frames_sent w bodies e
+frames_by w bodies note (Send e s t air part more eosp) = frames_sent w bodies e
 frames_by w bodies note (Ba start b0 b1 b2 b3 wide) =
     block_acks start (b0 ∷ b1 ∷ b2 ∷ b3 ∷ []) wide (option_and_then (exchange w) (exchange_answered note))
 frames_by w bodies note Ack = ack_frame ∷ []

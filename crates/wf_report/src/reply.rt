@@ -2,16 +2,16 @@
 
 ghost use Rattle.std.specs.Prelude.{◌≡◌, ◌+◌, ◌≤◌, ◌++◌, ◌∷◌, [], length, map, decimal, codes, slice_index, ◌*◌, true};
 ghost use Rattle.wf_io.specs.Words.{spaced};
-ghost use Rattle.wf_def_world.specs.Text.{answer_line, more_words, part_words, score_digits};
+ghost use Rattle.wf_def_world.specs.Text.{answer_line, more_words, eosp_words, part_words, score_digits};
 ghost use Rattle.wf_frame.specs.Answers.{part_sent, reply_of, reply_with};
 ghost use Rattle.wf_frame.specs.declared.notes.ReplyNote.TheVariants.{Accepted, Done, Reaped, Refused};
 ghost use Rattle.wf_frame.specs.declared.notes.ReplyNote.TheVariants as reply;
 ghost use Rattle.wf_frame.specs.declared.notes.GroupReply.TheVariants.{Beacon};
 ghost use Rattle.wf_frame.specs.Words.{line};
-ghost use Rattle.wf_report.specs.Replies.{is_one_word, pair_text};
+ghost use Rattle.wf_report.specs.Replies.{is_one_or_two_words, pair_text};
 
 use crate::parts::{bit_word, push_hex};
-use wf_frame::{Answer, Brief, Fate, GroupReply, Ids, Kind, Pairs, Refusal};
+use wf_frame::{Answer, Brief, Fate, GroupReply, Ids, Kind, Pairs, Refusal, ServiceReply};
 use wf_io::{Line, Word};
 
 // Writes the line of a refusal, with its number if it has one.
@@ -111,26 +111,28 @@ fn push_part(out: &mut Line, request: Option<u16>, kind: Kind, pairs: &Pairs)
     }
 }
 
-// Appends `more` if the More Data bit is set, and ends the line.
+// Appends `more` if the More Data bit is set.
 fn push_more(out: &mut Line, more: bool)
     requires { length out.old ≤ 7200 }
-    ensures { out.new ≡ out.old ++ (spaced (more_words more) ++ 10 ∷ []) }
+    ensures text { out.new ≡ out.old ++ spaced (more_words more) }
+    ensures len { length out.new ≤ length out.old + 5 }
 {
     if more {
-        out.push_all(b" more\n");
-    } else {
-        out.push(b'\n');
+        out.push_all(b" more");
     }
 }
 
-// Appends the frames or the request of an exchange and the word of the More Data bit, and ends the line.
-fn push_rest(out: &mut Line, request: Option<u16>, kind: Kind, pairs: &Pairs, more: bool)
-    requires { length out.old ≤ 190 }
-    ensures { out.new ≡ out.old ++ spaced (part_words (part_sent request kind pairs.now))
-        ++ (spaced (more_words more) ++ 10 ∷ []) }
+// Appends `more` if the More Data bit is set and `eosp` if the EOSP bit is, and ends the line.
+fn push_header_bits(out: &mut Line, more: bool, eosp: bool)
+    requires { length out.old ≤ 7200 }
+    ensures { out.new ≡ out.old ++ (spaced (more_words more ++ eosp_words eosp) ++ 10 ∷ []) }
 {
-    push_part(out, request, kind, pairs);
     push_more(out, more);
+    if eosp {
+        out.push_all(b" eosp\n");
+    } else {
+        out.push(b'\n');
+    }
 }
 
 // Appends the bits of a wide BlockAck, offset 255 first.
@@ -304,15 +306,30 @@ fn push_group(out: &mut Line, answer: GroupReply)
         } => {
             push_group_frame(out, id, number, air);
             push_more(out, more);
+            out.push(b'\n');
         }
         GroupReply::Done { id } => push_numbered(out, b"gdone", id),
     }
 }
 
-// Writes the line of an answer that is one word; there is no other answer here.
-fn push_word(out: &mut Line, brief: Brief)
+// Writes the line of an answer about service periods.
+fn push_service(out: &mut Line, answer: ServiceReply)
+    requires { out.old ≡ [] }
+    ensures { out.new ≡ answer_line (reply.Service answer) }
+{
+    match answer {
+        ServiceReply::Set => out.push_line(b"set", &[]),
+        ServiceReply::Triggered { class } => {
+            out.push_line(b"triggered", &[Word::Text(class.word())]);
+        }
+        ServiceReply::Ended => out.push_line(b"ended", &[]),
+    }
+}
+
+// Writes the line of an answer that is one or two words; there is no other answer here.
+fn push_one_or_two(out: &mut Line, brief: Brief)
     requires empty { out.old ≡ [] }
-    requires word { is_one_word brief ≡ true }
+    requires words { is_one_or_two_words brief ≡ true }
     ensures { out.new ≡ answer_line (reply_with brief [] []) }
 {
     match brief {
@@ -326,6 +343,12 @@ fn push_word(out: &mut Line, brief: Brief)
         Brief::Ack => out.push_line(b"ack", &[]),
         Brief::Begun => out.push_line(b"begun", &[]),
         Brief::Freed => out.push_line(b"freed", &[]),
+        Brief::Left { dropped } => push_numbered(out, b"left", u64::from(dropped)),
+        Brief::Flushed { dropped } => push_numbered(out, b"flushed", u64::from(dropped)),
+        Brief::Now { now } => push_numbered(out, b"now", now),
+        Brief::Held { start } => push_numbered(out, b"held", u64::from(start)),
+        Brief::Polled { class } => out.push_line(b"polled", &[Word::Text(class.word())]),
+        Brief::Charged { deficit } => out.push_line(b"charged", &[Word::Signed(deficit)]),
         _ => {}
     }
 }
@@ -336,10 +359,6 @@ pub fn print_reply(answer: &Answer, out: &mut Line)
     ensures { out.new ≡ answer_line (reply_of answer.now) }
 {
     match answer.brief {
-        Brief::Left { dropped } => push_numbered(out, b"left", u64::from(dropped)),
-        Brief::Flushed { dropped } => push_numbered(out, b"flushed", u64::from(dropped)),
-        Brief::Now { now } => push_numbered(out, b"now", now),
-        Brief::Held { start } => push_numbered(out, b"held", u64::from(start)),
         Brief::Ceased { dropped } => push_ceased(out, dropped, &answer.ids),
         Brief::Accepted { id, dropped } => push_accepted(out, id, dropped),
         Brief::Send {
@@ -350,9 +369,11 @@ pub fn print_reply(answer: &Answer, out: &mut Line)
             request,
             kind,
             more,
+            eosp,
         } => {
             push_exchange(out, exchange, station, tid, air);
-            push_rest(out, request, kind, &answer.pairs, more);
+            push_part(out, request, kind, &answer.pairs);
+            push_header_bits(out, more, eosp);
         }
         Brief::Released => push_released(out, &answer.ids),
         Brief::Ba {
@@ -368,11 +389,10 @@ pub fn print_reply(answer: &Answer, out: &mut Line)
             waiting,
             failed,
         } => push_ended(out, acked, waiting, failed),
-        Brief::Polled { class } => out.push_line(b"polled", &[Word::Text(class.word())]),
-        Brief::Charged { deficit } => out.push_line(b"charged", &[Word::Signed(deficit)]),
         Brief::Reaped { id, fate } => push_reaped(out, id, fate),
         Brief::Group(answer) => push_group(out, answer),
+        Brief::Service(answer) => push_service(out, answer),
         Brief::Refused(refusal) => push_refusal(out, refusal),
-        brief => push_word(out, brief),
+        brief => push_one_or_two(out, brief),
     }
 }

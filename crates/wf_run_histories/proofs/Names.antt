@@ -1,7 +1,7 @@
 -- Proves that an exchange that a reply names has begun by then. By cases of the call.
 use Rattle.std.proofs.Common.{◌≡◌, ℕ, ◌<◌, ◌≤◌, Bool, true, false, if◌then◌else◌, List, [], ◌∷◌, Option, Some, None, refl, sym, ◌∙◌, subst, arith}
 use Rattle.wf_frame.specs.declared.classes.Class.{Class}
-use Rattle.wf_frame.specs.declared.notes.Ask.TheVariants.{Join, Leave, Rate, Tick, Pull, Arrive, Answer, Done, Sleep, Wake, Poll, Rx, Reap, Ampdu, Stop, Start, Unsent, GiveUp, Flush, Offload, Weight, Plain, Hold, Begin, Free, Cease, Group}
+use Rattle.wf_frame.specs.declared.notes.Ask.TheVariants.{Join, Leave, Rate, Tick, Pull, Arrive, Answer, Done, Sleep, Wake, Poll, Rx, Reap, Ampdu, Stop, Start, Unsent, GiveUp, Flush, Offload, Weight, Plain, Hold, Begin, Free, Cease, Group, Service}
 use Rattle.wf_frame.specs.declared.notes.Limits.{Limits}
 use Rattle.wf_frame.specs.declared.notes.Note.{Note}
 use Rattle.wf_frame.specs.declared.notes.Note.TheVariants.{Enqueue, Asked}
@@ -12,13 +12,13 @@ use Rattle.wf_frame.specs.Classes.{all_classes}
 use Rattle.wf_def_agreement.specs.Receiver.{Score}
 use Rattle.wf_def_world.specs.World.{World, Exchange, exchange, with_bounds, with_station, on_station, with_rotation}
 use Rattle.wf_def_world.specs.CanSend.{with_listing_in, with_listings_in, with_listings_of}
-use Rattle.wf_def_world.specs.Exchanges.{Prepared, picked_station, after_pick, bounds_of, with_exchange_opened, without_credit}
+use Rattle.wf_def_world.specs.Exchanges.{Prepared, picked_station, after_pick, bounds_of, with_exchange_opened, with_spent}
 use Rattle.wf_def_world.specs.Refusals.{refusal}
 use Rattle.wf_def_world.specs.Step.{Outcome, join_outcome, leave_outcome, rate_outcome, tick_outcome, enqueue_outcome, send_outcome, pull_outcome_for, pull_outcome, arrive_outcome, answer_reply, answer_outcome, unsent_outcome, give_up_outcome, flush_outcome, done_outcome, outcome_where_open, sleep_outcome, wake_outcome, poll_outcome, rx_outcome, reap_outcome, outcome_of, concerned_station, judged_outcome, step, offload_outcome, weight_outcome, plain_outcome, hold_outcome, begin_outcome, free_outcome, cease_outcome}
 
 -- If a reply names the exchange that it begins, the number is below n.
 abbrev pub NamesBelow : ℕ → ReplyNote → Type 0
-NamesBelow n (Send e s t air part more) = e < n
+NamesBelow n (Send e s t air part more eosp) = e < n
 NamesBelow n _ = Unit {0}
 
 -- The same for the outcome of a call, with the number of exchanges that have begun by then.
@@ -26,7 +26,7 @@ abbrev NamesOwn : Outcome → Type 0
 NamesOwn o = NamesBelow o.world.exchanges o.reply
 
 own_sent : (s t : ℕ) (c : Class) (p : Prepared) → NamesOwn (send_outcome s t c p)
-unfolding send_outcome without_credit with_exchange_opened on_station with_station
+unfolding send_outcome with_spent with_exchange_opened on_station with_station
 own_sent s t c p = omega arith
 
 own_pulled_by : (o : Option ℕ) (w : World) (c : Class) → NamesOwn (pull_outcome_for w c o)
@@ -106,6 +106,7 @@ own_outcome (Asked (Begin s t window)) w = tt
 own_outcome (Asked (Free s t)) w = tt
 own_outcome (Asked (Cease s t)) w = tt
 own_outcome (Asked (Group ask)) w = tt
+own_outcome (Asked (Service ask)) w = tt
 
 -- Listing a station begins no exchange.
 same_if : (b : Bool) (u w : World) → u.exchanges ≡ w.exchanges → (if b then u else w).exchanges ≡ w.exchanges
@@ -140,5 +141,5 @@ names_own w note = own_judged (refusal w note) w note
 
 -- The bound may grow.
 pub names_more : (r : ReplyNote) (m n : ℕ) → m ≤ n → NamesBelow m r → NamesBelow n r
-names_more (Send e s t air part more) m n le is = omega (arith, le, is)
+names_more (Send e s t air part more eosp) m n le is = omega (arith, le, is)
 names_more _ m n le is = tt

@@ -89,7 +89,7 @@ BeginsBelow (Some x) = x.0 < room
 BeginsBelow None = Unit {0}
 
 begins : (r : ReplyNote) → NamesBelow room r → BeginsBelow (sending r)
-begins (Send e s t air part more) below = below
+begins (Send e s t air part more eosp) below = below
 begins _ below = tt
 
 fits_playing : (d : Driver) (over : Bool) (begun : Option (ℕ × ℕ)) → BeginsBelow begun →

@@ -157,7 +157,7 @@ exchange_played e n k =
 
 -- The exchange that a reply begins, and its number of transmissions.
 abbrev pub sending : Option ReplyNote → Option (ℕ × ℕ)
-sending (Some (Send e s t air part more)) = Some (e, transmissions_in part)
+sending (Some (Send e s t air part more eosp)) = Some (e, transmissions_in part)
 sending _ = None
 
 -- The calls that follow the reply to a pull.

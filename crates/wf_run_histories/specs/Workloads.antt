@@ -125,7 +125,7 @@ is_clock senders (Some now) = now == senders
 
 -- The exchange that a reply begins, and its number of transmissions.
 abbrev pub sending : ReplyNote → Option (ℕ × ℕ)
-sending (Send e s t air part more) = Some (e, transmissions_in part)
+sending (Send e s t air part more eosp) = Some (e, transmissions_in part)
 sending _ = None
 
 abbrev pub is_idle : ReplyNote → Bool

@@ -12,9 +12,11 @@ use Rattle.wf_frame.specs.declared.classes.Class.{Class}
 use Rattle.wf_frame.specs.declared.classes.Class.TheVariants.{Bk, Be, Vi, Vo}
 use Rattle.wf_frame.specs.declared.notes.Note.{Note}
 use Rattle.wf_frame.specs.declared.notes.Note.TheVariants.{Asked}
-use Rattle.wf_frame.specs.declared.notes.Ask.TheVariants.{Rate, Pull, Done, Group}
+use Rattle.wf_frame.specs.declared.notes.Ask.TheVariants.{Rate, Pull, Done, Group, Service}
 use Rattle.wf_frame.specs.declared.notes.GroupAsk.{GroupAsk}
 use Rattle.wf_frame.specs.declared.notes.GroupAsk.TheVariants as group
+use Rattle.wf_frame.specs.declared.notes.ServiceAsk.{ServiceAsk}
+use Rattle.wf_frame.specs.declared.notes.ServiceAsk.TheVariants as service
 use Rattle.wf_frame.specs.declared.notes.AskedRate.TheVariants.{Ht}
 use Rattle.wf_frame.specs.Classes.{class_word}
 use Rattle.wf_def_lists.specs.Lengths.{greatest_body}
@@ -35,7 +37,7 @@ use Rattle.wf_trace.specs.Lines.{is_printable}
 use Rattle.wf_trace.specs.Words.{words, parts, in_front, is_word, is_number, number_of, in_range}
 use Rattle.wf_frame.specs.declared.calls.Argument.{Argument}
 use Rattle.wf_frame.specs.declared.calls.Argument.TheVariants as argument
-use Rattle.wf_frame.specs.Calls.{arguments_of, args_of, call_word, default_of, format_word, format_named, note_form, form_of_limits, limits, form_of_group, argument_kind, note_values, values_of_group, IsOfKind, AreOfKinds}
+use Rattle.wf_frame.specs.Calls.{arguments_of, args_of, call_word, default_of, format_word, format_named, note_form, form_of_limits, limits, form_of_group, form_of_service, argument_kind, note_values, values_of_group, values_of_service, IsOfKind, AreOfKinds}
 use Rattle.wf_frame.proofs.TableLaws.{made_again}
 use Rattle.wf_trace.specs.Grammar.{read_arg, read_args, guard_word, heard_word, long_most}
 use Rattle.wf_trace.specs.Notes.{in_form, read_call}
@@ -396,6 +398,13 @@ group_read group.Beacon = refl
 group_read group.Pull = refl
 group_read group.Done = refl
 
+-- so has a call about service periods
+service_read : (ask : ServiceAsk) → read_call (note_words (Asked (Service ask)))
+    ≡ in_form (form_of_service ask) (words_of_values (args_of (form_of_service ask)) (values_of_service ask))
+service_read (service.Set station classes most) = refl
+service_read (service.Trigger station) = refl
+service_read (service.End station) = refl
+
 -- a rate without a format has a number in its place; the last line covers all other calls
 form_read : (note : Note) → NumbersAreInRange note → read_call (note_words note)
     ≡ in_form (note_form note) (words_of_values (args_of (note_form note)) (note_values note))
@@ -403,6 +412,7 @@ form_read (Asked (Rate station (Ht mcs mhz short))) r = rw (number_format mcs r.
 form_read (Asked (Pull c l)) r = pull_read c l.frames l.air
 form_read (Asked (Done exchange heard None)) r = refl
 form_read (Asked (Group ask)) r = group_read ask
+form_read (Asked (Service ask)) r = service_read ask
 form_read note r = refl
 
 note_read : (note : Note) → NumbersAreInRange note → read_call (note_words note) ≡ Ok note

@@ -59,6 +59,7 @@ pub(crate) fn ack(octets: &mut [u8; DATA_HEADER_OCTETS]) -> usize
         a3: [0; 6],
         seq: Seq12::of(0),
         tid: 0,
+        eosp: false,
     };
     encode(&header, octets)
 }

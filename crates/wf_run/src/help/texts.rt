@@ -89,6 +89,9 @@ A trace is a head, then calls, then the line end:
   beacon                          
   gpull                           
   gdone                           
+  apsd S CLASSES MAX              S, 0..65535; CLASSES, 0..255; MAX, 0..255
+  trigger S                       S, 0..65535
+  eosp S                          S, 0..65535
   end
 
 Settings: stations=1..256 flows=1..4096 limit=1..65535 room=1..131072 flow_quantum=64..65535
