@@ -98,10 +98,10 @@
 extern "C" {
 #endif
 
-/* The values that functions of type int32_t return, except wf_path_live, wf_path_can_pull, wf_path_listed and
- * wf_path_has_small_counts. 0 means success. Any other code says why nothing has changed: neither what the
- * handle holds, nor the caller's structs and buffers. There are these exceptions:
- * - `reply` shows the refusal, if the code is 1 to 41, unless the comment of the function says that it is
+/* The values that functions of type int32_t return, except wf_path_live, wf_path_in_service, wf_path_can_pull,
+ * wf_path_listed and wf_path_has_small_counts. 0 means success. Any other code says why nothing has changed:
+ * neither what the handle holds, nor the caller's structs and buffers. There are these exceptions:
+ * - `reply` shows the refusal, if the code is 1 to 42, unless the comment of the function says that it is
  *   unchanged;
  * - after a code of wf_path_burst or wf_cell_burst the first `made` calls are made;
  * - WF_FULL, WF_AHEAD and WF_IDLE set the count of `frames` of wf_path_pull and wf_path_pull_limited to 0;
@@ -144,9 +144,10 @@ enum wf_code {
   WF_ANSWERED = 19,     /* the exchange was answered already */
   WF_ARRIVED = 20,      /* that transmission arrived already */
   WF_NOTHING = 21,      /* there is nothing to answer, to send, to reap or to end */
-  WF_ASLEEP = 22,       /* the station is asleep already */
+  WF_ASLEEP = 22,       /* `sleep`: the station is asleep already; `apsd`: the station is asleep */
   WF_AWAKE = 23,        /* the station is awake */
-  WF_POLLED = 24,       /* the station has a credit that is not spent yet */
+  WF_POLLED = 24,       /* `poll`: the station has a credit that is not spent yet; `trigger`: its
+                         * service period is open already */
   WF_DEBT = 25,         /* the deficit, which stays at `deficit`, would fall below -`debt`
                          * microseconds */
   WF_HISTORY_FULL = 26, /* the history has `calls` entries; this call is not added to it */
@@ -169,6 +170,7 @@ enum wf_code {
                          * agreement */
   WF_BUFFERED = 40,     /* `count` group frames are queued: as many as `buffered` */
   WF_FLYING = 41,       /* a group frame is on the air */
+  WF_BAD_CLASSES = 42,  /* the delivery-enabled classes are not 0 to 15 */
   /* end refusals */
   /* other codes */
   WF_NO_MEMORY = 60,    /* out of memory */
@@ -233,10 +235,11 @@ enum wf_outcome {
 enum wf_kind {
   WF_KIND_JOINED = 0,
   WF_KIND_LEFT = 1,      /* count: the number of frames that were dropped */
-  WF_KIND_SET = 2,       /* the rate, the greatest aggregate or the weight is set */
+  WF_KIND_SET = 2,       /* the rate, the greatest aggregate, the weight or the delivery-enabled classes are
+                          * set */
   WF_KIND_NOW = 3,       /* now */
   WF_KIND_ACCEPTED = 4,  /* id; dropped, if has_dropped is 1 */
-  WF_KIND_SEND = 5,      /* exchange, station, tid, air, more, batch, plain; start, if request is 1 */
+  WF_KIND_SEND = 5,      /* exchange, station, tid, air, more, batch, plain, eosp; start, if request is 1 */
   WF_KIND_RELEASED = 6,  /* only from a cell: wf_cell_released writes the frames */
   WF_KIND_BA = 7,        /* only from a cell: wf_cell_block writes the BlockAck */
   WF_KIND_DONE = 8,      /* acked, waiting, failed */
@@ -259,17 +262,19 @@ enum wf_kind {
   WF_KIND_QUEUED = 24,   /* id: the group frame that was accepted */
   WF_KIND_BEACON = 25,   /* count: the DTIM count; more: 1 if the beacon announces group frames */
   WF_KIND_GSEND = 26,    /* id, start, air, more: the group frame to send, and its sequence number */
-  WF_KIND_GDONE = 27     /* id: the group frame that was sent */
+  WF_KIND_GDONE = 27,    /* id: the group frame that was sent */
+  WF_KIND_TRIGGERED = 28, /* class_: a service period is open */
+  WF_KIND_ENDED = 29     /* the service period ended */
 };
 
 /* The calls of a cell, each with the fields of `struct wf_call` that have a meaning. The other fields are 0
  * in an entry that is read, and are ignored in a call that is made. A call has the number of its answer,
- * except that WF_CALL_AMPDU and WF_CALL_WEIGHT are answered with WF_KIND_SET, WF_CALL_GIVEUP with
+ * except that WF_CALL_AMPDU, WF_CALL_WEIGHT and WF_CALL_APSD are answered with WF_KIND_SET, WF_CALL_GIVEUP with
  * WF_KIND_MARKED, WF_CALL_FLUSH with WF_KIND_FLUSHED, WF_CALL_OFFLOAD and WF_CALL_PLAIN with WF_KIND_JOINED,
  * WF_CALL_HOLD with WF_KIND_HELD, WF_CALL_BEGIN with WF_KIND_BEGUN, WF_CALL_FREE with WF_KIND_FREED,
  * WF_CALL_CEASE with WF_KIND_CEASED, WF_CALL_GROUP with WF_KIND_QUEUED, WF_CALL_BEACON with WF_KIND_BEACON,
- * WF_CALL_GPULL with WF_KIND_GSEND, and WF_CALL_GDONE with WF_KIND_GDONE. WF_CALL_ANSWER of a plain exchange
- * is answered with WF_KIND_ACK. */
+ * WF_CALL_GPULL with WF_KIND_GSEND, WF_CALL_GDONE with WF_KIND_GDONE, WF_CALL_TRIGGER with WF_KIND_TRIGGERED,
+ * and WF_CALL_EOSP with WF_KIND_ENDED. WF_CALL_ANSWER of a plain exchange is answered with WF_KIND_ACK. */
 enum wf_call_kind {
   /* begin calls: tools/tables writes these lines; the comments stay */
   WF_CALL_JOIN = 0,     /* station, window, start, exponent, weight */
@@ -303,7 +308,10 @@ enum wf_call_kind {
   WF_CALL_GROUP = 27,   /* length: 1 to WF_GREATEST_BODY */
   WF_CALL_BEACON = 28,  /* none */
   WF_CALL_GPULL = 29,   /* none */
-  WF_CALL_GDONE = 30    /* none */
+  WF_CALL_GDONE = 30,   /* none */
+  WF_CALL_APSD = 31,    /* station, classes, most */
+  WF_CALL_TRIGGER = 32, /* station */
+  WF_CALL_EOSP = 33     /* station */
   /* end calls */
 };
 
@@ -389,9 +397,10 @@ struct wf_reply {
   uint16_t waiting;     /* frames of the exchange that wait to be sent again */
   uint16_t failed;      /* frames of the exchange that are dropped */
   uint8_t kind;         /* enum wf_kind */
-  uint8_t refusal;      /* enum wf_code, 0 to 41: what the function returned */
+  uint8_t refusal;      /* enum wf_code, 0 to 42: what the function returned */
   uint8_t tid;          /* the TID to send for */
-  uint8_t class_;       /* enum wf_class: the class of the credit */
+  uint8_t class_;       /* enum wf_class: the class of the credit, or the first class to pull in a service
+                         * period */
   uint8_t fate;         /* enum wf_fate */
   uint8_t has_dropped;  /* 1 if `dropped` is set, else 0 */
   uint8_t request;      /* 1 if the exchange is a BlockAckReq, else 0 */
@@ -400,6 +409,8 @@ struct wf_reply {
   uint8_t batch;        /* 1 if the frames are for a device that numbers them (wf_path_join_offload), else 0 */
   uint8_t plain;        /* 1 if the exchange is one frame without an agreement, which an Ack answers
                          * (wf_path_plain), else 0 */
+  uint8_t eosp;         /* 1 if the exchange is the last one of a service period (wf_path_trigger), else 0; the
+                         * header of its last frame has the EOSP bit */
 };
 
 /* The frames of an exchange: the first `count` ids and sequence numbers (0 to 4095). Those of a batch have no
@@ -539,6 +550,8 @@ struct wf_call {
   uint8_t streams;     /* VHT and HE: the number of spatial streams */
   uint8_t heard;       /* other than 0 if the BlockAck was heard; 1 in an entry that is read */
   uint8_t speed;       /* OFDM: in Mbit/s; DSSS: in half Mbit/s */
+  uint8_t classes;     /* the delivery-enabled classes: bit c is 1 if class c (enum wf_class) is one */
+  uint8_t most;        /* the most frames of a service period; 0 limits nothing */
 };
 
 /* The frames that a station passed up: the first `count` ids, in order. The entries after them have no
@@ -746,15 +759,16 @@ int32_t wf_path_tick(struct wf_path *path, uint32_t by, struct wf_reply *reply);
  * 2^62, so this limit leaves room for later ticks. */
 int32_t wf_path_advance(struct wf_path *path, uint64_t now, struct wf_reply *reply);
 
-/* Says that a live station goes to sleep: from then on it gets only what it polls for (wf_path_poll). Returns
- * WF_OK, WF_BAD_STATION, WF_NO_STATION or WF_ASLEEP. */
+/* Says that a live station goes to sleep: from then on it gets only what it asks for (wf_path_poll,
+ * wf_path_trigger). Returns WF_OK, WF_BAD_STATION, WF_NO_STATION or WF_ASLEEP. */
 int32_t wf_path_sleep(struct wf_path *path, uint16_t station, struct wf_reply *reply);
 
 /* Says that a sleeping station wakes. Returns WF_OK, WF_BAD_STATION, WF_NO_STATION or WF_AWAKE. */
 int32_t wf_path_wake(struct wf_path *path, uint16_t station, struct wf_reply *reply);
 
 /* Says that a sleeping station asks for one frame (PS-Poll). It gets a credit, which permits one exchange of
- * the class `class_` of the reply. Returns WF_OK, WF_BAD_STATION, WF_NO_STATION, WF_AWAKE, WF_POLLED or
+ * the class `class_` of the reply. A class that is delivery-enabled gets no credit, unless all four are
+ * (wf_path_apsd). Returns WF_OK, WF_BAD_STATION, WF_NO_STATION, WF_AWAKE, WF_POLLED or
  * WF_NOTHING. */
 int32_t wf_path_poll(struct wf_path *path, uint16_t station, struct wf_reply *reply);
 
@@ -810,7 +824,7 @@ int32_t wf_path_enqueue_bare(struct wf_path *path, uint16_t station, const struc
  * the BlockAck or Ack, in microseconds. Returns WF_OK; WF_BAD_CLASS exactly if the class is above 3, and then
  * `reply` and `frames` are unchanged; or else WF_FULL, WF_AHEAD or WF_IDLE. After WF_FULL, pull again when an
  * exchange of the class has ended; after WF_AHEAD, when any exchange has ended; after WF_IDLE, also after an
- * enqueue, a wake, a poll, a start, or a wf_path_begin or wf_path_free_tid. */
+ * enqueue, a wake, a poll, a trigger, a start, or a wf_path_begin or wf_path_free_tid. */
 int32_t wf_path_pull(struct wf_path *path, uint8_t class_, struct wf_reply *reply, struct wf_frames *frames);
 
 /* Opens the next exchange of a class as wf_path_pull does, for a device that has little room now: an
@@ -890,6 +904,33 @@ int32_t wf_path_group_done(struct wf_path *path, struct wf_group *frame, struct 
 /* Writes how many group frames were accepted, sent, and are queued or on the air, and how many sequence numbers
  * they and the beacons took. */
 void wf_path_group_counts(const struct wf_path *path, struct wf_group_counts *counts);
+
+/* ---- service periods (U-APSD; IEEE 802.11-2012, 10.2.1.5). A station names its delivery-enabled classes when
+ * it associates. While it sleeps, a trigger frame, a QoS Data or QoS Null frame of its own, opens a service
+ * period. Until this ends, a pull of a delivery-enabled class picks the station as if it were awake. The
+ * exchanges have `more` 1 while more of these classes waits, and the last one has `eosp` 1. The driver sends
+ * them in the order of their pulls. wf_path_tim is about the station's other classes, or about all four if all
+ * are delivery-enabled. */
+
+/* Sets the delivery-enabled classes of a live station that is awake, and the most frames of its service
+ * periods; 0 limits nothing. Bit c of `classes` is 1 if class c (enum wf_class) is one. (In a station's QoS
+ * Info field bits 0 to 3 are for vo, vi, bk and be, and its Max SP Length allows 2, 4 or 6 frames, or all.) A
+ * station that joins has none. Returns WF_OK; WF_BAD_STATION; WF_BAD_CLASSES if `classes` is above 15;
+ * WF_NO_STATION; or WF_ASLEEP if the station sleeps. */
+int32_t wf_path_apsd(struct wf_path *path, uint16_t station, uint8_t classes, uint8_t most, struct wf_reply *reply);
+
+/* Says that a sleeping station sent a trigger frame, which opens a service period. `class_` of the reply is the
+ * first class of vo, vi, be, bk that is delivery-enabled and can send: pull it first. Returns WF_OK;
+ * WF_BAD_STATION; WF_NO_STATION; WF_AWAKE; WF_POLLED if a service period is open already; or WF_NOTHING if no
+ * delivery-enabled class can send. After WF_NOTHING send the station a QoS Null frame with the EOSP bit. */
+int32_t wf_path_trigger(struct wf_path *path, uint16_t station, struct wf_reply *reply);
+
+/* Ends the service period of a station to which the device sent a QoS Null frame with the EOSP bit. This is
+ * needed if a service period is open (wf_path_in_service), none of its exchanges is open, and pulls of the
+ * delivery-enabled classes return WF_IDLE, since what was left is dropped or cannot go now. wf_path_wake and
+ * wf_path_leave end a service period too. Returns WF_OK; WF_BAD_STATION; WF_NO_STATION; or WF_NOTHING if none
+ * is open. */
+int32_t wf_path_end_service(struct wf_path *path, uint16_t station, struct wf_reply *reply);
 
 /* ---- an open exchange */
 
@@ -1005,6 +1046,10 @@ uint32_t wf_path_open_count(const struct wf_path *path);
 
 /* Returns 1 if a station is live, else 0. */
 int32_t wf_path_live(const struct wf_path *path, uint16_t station);
+
+/* Returns 1 if a service period of a station is open (wf_path_trigger), else 0. A station that is not live has
+ * none. */
+int32_t wf_path_in_service(const struct wf_path *path, uint16_t station);
 
 /* Writes how many frames were accepted, and how many of them have each fate. */
 void wf_path_tally(const struct wf_path *path, struct wf_tally *tally);

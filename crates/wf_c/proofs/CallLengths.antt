@@ -4,8 +4,9 @@ use Rattle.wf_frame.specs.Calls.{arguments_of, note_form, note_values, form_of_l
 use Rattle.wf_frame.specs.declared.calls.Value.TheVariants.{Class as Of_class}
 use Rattle.wf_frame.specs.declared.classes.Class.{Class}
 use Rattle.wf_frame.specs.declared.notes.AskedRate.TheVariants.{Ht, Vht, He, Ofdm, Dsss}
-use Rattle.wf_frame.specs.declared.notes.Ask.TheVariants.{Join, Leave, Rate, Tick, Pull, Arrive, Answer, Done, Sleep, Wake, Poll, Rx, Reap, Ampdu, Stop, Start, Unsent, GiveUp, Flush, Offload, Weight, Plain, Hold, Begin, Free, Cease, Group}
+use Rattle.wf_frame.specs.declared.notes.Ask.TheVariants.{Join, Leave, Rate, Tick, Pull, Arrive, Answer, Done, Sleep, Wake, Poll, Rx, Reap, Ampdu, Stop, Start, Unsent, GiveUp, Flush, Offload, Weight, Plain, Hold, Begin, Free, Cease, Group, Service}
 use Rattle.wf_frame.specs.declared.notes.GroupAsk.TheVariants as group
+use Rattle.wf_frame.specs.declared.notes.ServiceAsk.TheVariants as service
 use Rattle.wf_frame.specs.declared.notes.Note.{Note}
 use Rattle.wf_frame.specs.declared.notes.Note.TheVariants.{Enqueue, Asked}
 
@@ -53,3 +54,6 @@ as_many (Asked (Group (group.Accept len))) = refl
 as_many (Asked (Group group.Beacon)) = refl
 as_many (Asked (Group group.Pull)) = refl
 as_many (Asked (Group group.Done)) = refl
+as_many (Asked (Service (service.Set station classes most))) = refl
+as_many (Asked (Service (service.Trigger station))) = refl
+as_many (Asked (Service (service.End station))) = refl

@@ -7,8 +7,9 @@ use Rattle.wf_frame.specs.Calls.{call_numbered, limits, no_limits}
 use Rattle.wf_frame.specs.Classes.{all_classes, class_among, class_number}
 use Rattle.wf_frame.specs.declared.classes.Class.{Class}
 use Rattle.wf_frame.specs.declared.notes.Note.TheVariants.{Enqueue, Asked}
-use Rattle.wf_frame.specs.declared.notes.Ask.TheVariants.{Join, Leave, Rate, Tick, Pull, Arrive, Answer, Done, Sleep, Wake, Poll, Rx, Reap, Ampdu, Stop, Start, Unsent, GiveUp, Flush, Offload, Weight, Plain, Hold, Begin, Free, Cease, Group}
+use Rattle.wf_frame.specs.declared.notes.Ask.TheVariants.{Join, Leave, Rate, Tick, Pull, Arrive, Answer, Done, Sleep, Wake, Poll, Rx, Reap, Ampdu, Stop, Start, Unsent, GiveUp, Flush, Offload, Weight, Plain, Hold, Begin, Free, Cease, Group, Service}
 use Rattle.wf_frame.specs.declared.notes.GroupAsk.TheVariants as group
+use Rattle.wf_frame.specs.declared.notes.ServiceAsk.TheVariants as service
 use Rattle.wf_frame.specs.declared.notes.AskedRate.TheVariants.{Ht, Vht, He, Ofdm, Dsss}
 use Rattle.wf_def_world.specs.Refusals.{is_within}
 use Rattle.wf_c.specs.CallNumbers.{blank_call, numbers_of_call, asked, call_noted}
@@ -207,6 +208,21 @@ fields_of_gpull = refl
 pub fields_of_gdone : numbers_of_call (Asked (Group group.Done)) ≡ record blank_call { kind = 30 }
 fields_of_gdone = refl
 
+pub fields_of_apsd : (station classes most : ℕ) →
+    numbers_of_call (Asked (Service (service.Set station classes most)))
+    ≡ record blank_call { kind = 31; station = station; classes = classes; most = most }
+fields_of_apsd station classes most = refl
+
+pub fields_of_trigger : (station : ℕ) →
+    numbers_of_call (Asked (Service (service.Trigger station)))
+    ≡ record blank_call { kind = 32; station = station }
+fields_of_trigger station = refl
+
+pub fields_of_eosp : (station : ℕ) →
+    numbers_of_call (Asked (Service (service.End station)))
+    ≡ record blank_call { kind = 33; station = station }
+fields_of_eosp station = refl
+
 -- ---- the call of fields
 
 -- the calls that these fields show, by their kind and some other field
@@ -264,12 +280,15 @@ pub record Rows (c : CallNumbers) : Type 0 where
   pub beacon : asked (record c { kind = 28 }) ≡ Some (Group group.Beacon)
   pub gpull : asked (record c { kind = 29 }) ≡ Some (Group group.Pull)
   pub gdone : asked (record c { kind = 30 }) ≡ Some (Group group.Done)
-  pub no_call : (n : ℕ) → 30 < n → asked (record c { kind = n }) ≡ None
+  pub apsd : asked (record c { kind = 31 }) ≡ Some (Service (service.Set c.station c.classes c.most))
+  pub trigger : asked (record c { kind = 32 }) ≡ Some (Service (service.Trigger c.station))
+  pub eosp : asked (record c { kind = 33 }) ≡ Some (Service (service.End c.station))
+  pub no_call : (n : ℕ) → 33 < n → asked (record c { kind = n }) ≡ None
 
 above : (n k : ℕ) → k < n → nat_eq n k ≡ false
 above n k less = grind (arith, nat_tests)
 
-none_numbered : (n : ℕ) → 30 < n → call_numbered n ≡ None
+none_numbered : (n : ℕ) → 33 < n → call_numbered n ≡ None
 none_numbered n less = grind (arith, nat_tests)
 
 is_class : (n : ℕ) → n ≤ 3 → nat_lt 3 n ≡ false
@@ -337,5 +356,8 @@ rows c = record {
   beacon = refl;
   gpull = refl;
   gdone = refl;
+  apsd = refl;
+  trigger = refl;
+  eosp = refl;
   no_call = λ n less. rw (none_numbered n less) refl;
 }

@@ -8,6 +8,7 @@ use Rattle.wf_frame.specs.declared.answers.Brief.{Brief}
 use Rattle.wf_frame.specs.declared.answers.Brief.TheVariants.{Accepted, Send, Refused}
 use Rattle.wf_frame.specs.declared.answers.Brief.TheVariants as brief
 use Rattle.wf_frame.specs.declared.notes.GroupReply.TheVariants as answer
+use Rattle.wf_frame.specs.declared.notes.ServiceReply.TheVariants as service
 use Rattle.wf_frame.specs.declared.notes.Refusal.{Refusal}
 use Rattle.wf_frame.specs.declared.notes.Refusal.TheVariants as refusal
 use Rattle.wf_send_half.specs.Bits.{end_refusal}
@@ -33,12 +34,15 @@ shows_none : (b : Brief) → is_refused (reply_with b [] []) ≡ false → (numb
 shows_none (Refused why) is = absurd (both_ways true is refl)
 shows_none (Accepted id None) is = refl
 shows_none (Accepted id (Some dropped)) is = refl
-shows_none (Send exchange station tid air None kind more) is = refl
-shows_none (Send exchange station tid air (Some start) kind more) is = refl
+shows_none (Send exchange station tid air None kind more eosp) is = refl
+shows_none (Send exchange station tid air (Some start) kind more eosp) is = refl
 shows_none (brief.Group (answer.Queued id)) is = refl
 shows_none (brief.Group (answer.Beacon count follows)) is = refl
 shows_none (brief.Group (answer.Send id number air more)) is = refl
 shows_none (brief.Group (answer.Done id)) is = refl
+shows_none (brief.Service service.Set) is = refl
+shows_none (brief.Service (service.Triggered class)) is = refl
+shows_none (brief.Service service.Ended) is = refl
 shows_none _ is = refl
 
 module _ {p q : PathValue} {e : ℕ} {heard : Option (ℕ × List ℕ)} {air : Option ℕ} {b : Brief}

@@ -46,6 +46,8 @@ blank_call = record {
   streams = 0;
   heard = 0;
   speed = 0;
+  classes = 0;
+  most = 0;
 }
 
 -- ---- the fields of arguments
@@ -94,6 +96,8 @@ value_in c argument.Framed = value.Frames
 value_in c argument.Frames = value.Long c.frames
 value_in c argument.Allowed = value.Long c.air
 value_in c argument.Octets = value.Long c.octets
+value_in c argument.Classes = value.Octet c.classes
+value_in c argument.Most = value.Octet c.most
 
 -- the fields after they are set to this value of an argument
 abbrev pub with_argument : CallNumbers → Argument → Value → CallNumbers
@@ -123,6 +127,8 @@ with_argument c argument.Air (value.Long n) = record c { air = n }
 with_argument c argument.Frames (value.Long n) = record c { frames = n }
 with_argument c argument.Allowed (value.Long n) = record c { air = n }
 with_argument c argument.Octets (value.Long n) = record c { octets = n }
+with_argument c argument.Classes (value.Octet n) = record c { classes = n }
+with_argument c argument.Most (value.Octet n) = record c { most = n }
 with_argument c _ _ = c
 
 -- the fields after they are set to these values of several arguments

@@ -85,7 +85,7 @@ kind_rows =
     (17, codes "marked") ∷ (18, codes "flushed") ∷
     (19, codes "ack") ∷ (20, codes "held") ∷ (21, codes "begun") ∷ (22, codes "freed") ∷
     (23, codes "ceased") ∷ (24, codes "queued") ∷ (25, codes "beacon") ∷ (26, codes "gsend") ∷
-    (27, codes "gdone") ∷ []
+    (27, codes "gdone") ∷ (28, codes "triggered") ∷ (29, codes "ended") ∷ []
 
 -- the word for a kind of answer
 abbrev pub answer_word : ℕ → List ℕ

@@ -9,6 +9,8 @@ use Rattle.wf_frame.specs.declared.answers.Kind.{Kind}
 use Rattle.wf_frame.specs.declared.answers.Kind.TheVariants.{Batch, Plain}
 use Rattle.wf_frame.specs.declared.notes.GroupReply.{GroupReply}
 use Rattle.wf_frame.specs.declared.notes.GroupReply.TheVariants as group
+use Rattle.wf_frame.specs.declared.notes.ServiceReply.{ServiceReply}
+use Rattle.wf_frame.specs.declared.notes.ServiceReply.TheVariants as service
 use Rattle.wf_frame.specs.Calls.{limits}
 use Rattle.wf_frame.specs.Refusals.{refusal_number}
 use Rattle.wf_frame.specs.declared.notes.Limits.{Limits}
@@ -76,6 +78,7 @@ blank = record {
   more = 0;
   batch = 0;
   plain = 0;
+  eosp = 0;
 }
 
 -- whether the device numbers the frames of an exchange
@@ -123,6 +126,12 @@ numbers_of_group (group.Send id number air more) =
     record blank { kind = 26; id = id; start = number; air = air; more = flag_of more }
 numbers_of_group (group.Done id) = record blank { kind = 27; id = id }
 
+-- the fields of the answer to a call about service periods
+abbrev pub numbers_of_service : ServiceReply → Reply
+numbers_of_service service.Set = record blank { kind = 2 }
+numbers_of_service (service.Triggered class) = record blank { kind = 28; class = class_number class }
+numbers_of_service service.Ended = record blank { kind = 29 }
+
 -- the fields of an answer; its lists, and the fields of a BlockAck, are in other structs
 abbrev pub numbers_of : Brief → Reply
 numbers_of Joined = record blank { kind = 0 }
@@ -130,7 +139,7 @@ numbers_of (brief.Left dropped) = record blank { kind = 1; count = dropped }
 numbers_of Set = record blank { kind = 2 }
 numbers_of (Now now) = record blank { kind = 3; now = now }
 numbers_of (Accepted id dropped) = with_dropped dropped (record blank { kind = 4; id = id })
-numbers_of (Send exchange station tid air request kind more) =
+numbers_of (Send exchange station tid air request kind more eosp) =
     record (with_request_start request (record blank { kind = 5 })) {
       exchange = exchange;
       station = station;
@@ -139,6 +148,7 @@ numbers_of (Send exchange station tid air request kind more) =
       more = flag_of more;
       batch = flag_of (is_batch_kind kind);
       plain = flag_of (is_plain_kind kind);
+      eosp = flag_of eosp;
     }
 numbers_of Released = record blank { kind = 6 }
 numbers_of (Ba start b0 b1 b2 b3 wide) = record blank { kind = 7 }
@@ -159,6 +169,7 @@ numbers_of Begun = record blank { kind = 21 }
 numbers_of Freed = record blank { kind = 22 }
 numbers_of (brief.Ceased dropped) = record blank { kind = 23; count = dropped }
 numbers_of (brief.Group answer) = numbers_of_group answer
+numbers_of (brief.Service answer) = numbers_of_service answer
 numbers_of (Refused reason) = with_refusal reason
     (record blank { kind = 14; refusal = refusal_number reason })
 

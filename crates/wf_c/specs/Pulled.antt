@@ -25,6 +25,6 @@ pairs_shown batch pairs = map (pair_shown batch) pairs
 
 -- the entries are the frames that an answer sends, or it sends none
 abbrev pub ShowsAggregate : Frames → Brief → List (ℕ × ℕ) → Type 0
-ShowsAggregate f (Send exchange station tid air None kind more) pairs =
+ShowsAggregate f (Send exchange station tid air None kind more eosp) pairs =
     ShowsPairs f (pairs_shown (is_batch_kind kind) pairs)
 ShowsAggregate f _ pairs = f.count ≡ 0

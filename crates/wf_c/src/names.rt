@@ -101,7 +101,7 @@ fn word_of_own(code: u32) -> &'static [u8]
     }
 }
 
-/// Writes the word for a kind of answer, 0 to 27, the first word of its line in a trace; `?` for any other
+/// Writes the word for a kind of answer, 0 to 29, the first word of its line in a trace; `?` for any other
 /// number.
 #[unsafe(no_mangle)]
 pub extern "C" fn wf_kind_name(kind: i32, name: &mut [u8; 16])
@@ -149,6 +149,8 @@ fn word_of_kind(kind: u32) -> &'static [u8]
         25 => b"beacon",
         26 => b"gsend",
         27 => b"gdone",
+        28 => b"triggered",
+        29 => b"ended",
         _ => UNKNOWN,
     }
 }

@@ -193,7 +193,7 @@ pub extern "C" fn wf_path_can_pull(path: &mut PathSlot, class: u8) -> i32
 }
 
 // The number of a flag: 1 if it is set, else 0.
-fn number_of_flag(flag: bool) -> i32
+pub(crate) fn number_of_flag(flag: bool) -> i32
     ensures { result ≡ pos (flag_of flag) }
 {
     i32::from(flag)

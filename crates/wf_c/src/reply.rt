@@ -3,10 +3,10 @@
 ghost use Rattle.std.specs.Prelude.{◌≡◌, pos, true};
 ghost use Rattle.wf_frame.specs.Classes.{class_number};
 ghost use Rattle.wf_frame.specs.Refusals.{refusal_number};
-ghost use Rattle.wf_frame.specs.declared.answers.Brief.TheVariants.{Send, Done, Reaped, Group};
+ghost use Rattle.wf_frame.specs.declared.answers.Brief.TheVariants.{Send, Done, Reaped, Group, Service};
 ghost use Rattle.wf_c.specs.Numbers.{blank, flag_of, is_batch_kind, is_kind_alone, is_plain_kind, numbers_of, with_refusal, with_dropped, with_request_start};
 
-use wf_frame::{Brief, Class, Fate, GroupReply, Kind, Refusal};
+use wf_frame::{Brief, Class, Fate, GroupReply, Kind, Refusal, ServiceReply};
 
 /// The answer to a call. `kind` says which answer it is, and which other fields have a meaning; all others
 /// are 0.
@@ -40,13 +40,13 @@ pub struct Reply {
     pub waiting: u16,
     /// The number of its frames that are dropped.
     pub failed: u16,
-    /// The kind of answer: 0 to 27.
+    /// The kind of answer: 0 to 29.
     pub kind: u8,
-    /// Why the call was refused: 1 to 41, or 0 if it was not.
+    /// Why the call was refused: 1 to 42, or 0 if it was not.
     pub refusal: u8,
     /// The TID to send for: 0 to 7.
     pub tid: u8,
-    /// The class of the credit: 0 to 3.
+    /// The class of the credit, or the first class to pull in a service period: 0 to 3.
     pub class: u8,
     /// The fate of the frame that was reaped: 0 to 7.
     pub fate: u8,
@@ -61,6 +61,8 @@ pub struct Reply {
     pub batch: u8,
     /// 1 if the exchange sends one frame without an agreement, which an Ack answers, else 0.
     pub plain: u8,
+    /// 1 if the exchange ends the service period of its station (the EOSP bit of its last frame), else 0.
+    pub eosp: u8,
 }
 
 /// All fields 0.
@@ -87,6 +89,7 @@ const BLANK: Reply = Reply {
     more: 0,
     batch: 0,
     plain: 0,
+    eosp: 0,
 };
 
 impl Reply {
@@ -106,7 +109,8 @@ impl Reply {
                 request,
                 kind,
                 more,
-            } => sending(exchange, station, tid, air, request, kind, more),
+                eosp,
+            } => sending(exchange, station, tid, air, request, kind, (more, eosp)),
             Brief::Done {
                 acked,
                 waiting,
@@ -128,6 +132,7 @@ impl Reply {
             },
             Brief::Ceased { dropped } => dropping(23, dropped),
             Brief::Group(answer) => of_group(answer),
+            Brief::Service(answer) => of_service(answer),
             Brief::Refused(refusal) => refused(refusal),
             brief => alone(brief),
         }
@@ -214,7 +219,7 @@ fn flags_of_kind(kind: Kind) -> (u8, u8)
     }
 }
 
-// The answer to a pull.
+// The answer to a pull. `bits` are the More Data bit and the EOSP bit.
 fn sending(
     exchange: u64,
     station: u16,
@@ -222,11 +227,12 @@ fn sending(
     air: u32,
     request: Option<u16>,
     kind: Kind,
-    more: bool,
+    bits: (bool, bool),
 ) -> Reply
-    ensures { result ≡ numbers_of (Send exchange station tid air request kind more) }
+    ensures { result ≡ numbers_of (Send exchange station tid air request kind bits.0 bits.1) }
 {
     let (batch, plain) = flags_of_kind(kind);
+    let (more, eosp) = bits;
     Reply {
         exchange,
         station,
@@ -235,6 +241,7 @@ fn sending(
         more: u8::from(more),
         batch,
         plain,
+        eosp: u8::from(eosp),
         ..requested(request)
     }
 }
@@ -286,6 +293,20 @@ fn of_group(answer: GroupReply) -> Reply
             ..of_kind(26)
         },
         GroupReply::Done { id } => Reply { id, ..of_kind(27) },
+    }
+}
+
+// The answer to a call about service periods.
+fn of_service(answer: ServiceReply) -> Reply
+    ensures { result ≡ numbers_of (Service answer) }
+{
+    match answer {
+        ServiceReply::Set => of_kind(2),
+        ServiceReply::Triggered { class } => Reply {
+            class: number_of_class(class),
+            ..of_kind(28)
+        },
+        ServiceReply::Ended => of_kind(29),
     }
 }
 

@@ -40,7 +40,7 @@ pub struct CallNumbers {
     pub length: u16,
     /// The guard interval of a rate of HE, in nanoseconds.
     pub guard: u16,
-    /// The kind of call: 0 to 30.
+    /// The kind of call: 0 to 33.
     pub kind: u8,
     /// The TID of a frame, of a flush or of an agreement.
     pub tid: u8,
@@ -64,6 +64,10 @@ pub struct CallNumbers {
     pub heard: u8,
     /// The speed of a rate of OFDM in Mbit/s, or of DSSS in half Mbit/s.
     pub speed: u8,
+    /// The delivery-enabled classes of a station, 0 to 15: bit c is 1 if class number c is one.
+    pub classes: u8,
+    /// The most frames of a service period; 0 limits nothing.
+    pub most: u8,
 }
 
 // All fields 0.
@@ -92,6 +96,8 @@ const BLANK: CallNumbers = CallNumbers {
     streams: 0,
     heard: 0,
     speed: 0,
+    classes: 0,
+    most: 0,
 };
 
 // The number of a format. 0 is the number of HT, which is no value of the argument.
@@ -215,6 +221,8 @@ impl CallNumbers {
             Argument::Framed => Value::Frames,
             Argument::Frames => Value::Long(self.frames),
             Argument::Octets => Value::Long(self.octets),
+            Argument::Classes => Value::Octet(self.classes),
+            Argument::Most => Value::Octet(self.most),
         }
     }
 
@@ -246,6 +254,8 @@ impl CallNumbers {
             (Argument::Air | Argument::Allowed, Value::Long(number)) => self.air = number,
             (Argument::Frames, Value::Long(number)) => self.frames = number,
             (Argument::Octets, Value::Long(number)) => self.octets = number,
+            (Argument::Classes, Value::Octet(number)) => self.classes = number,
+            (Argument::Most, Value::Octet(number)) => self.most = number,
             _ => {}
         }
     }

@@ -9,6 +9,7 @@ use Rattle.wf_frame.specs.declared.classes.Cause.TheVariants.{Overlimit, Codel, 
 use Rattle.wf_frame.specs.declared.classes.Fate.{Fate}
 use Rattle.wf_frame.specs.declared.classes.Fate.TheVariants.{Held, Acked, Dropped}
 use Rattle.wf_frame.specs.declared.notes.GroupReply.TheVariants as group
+use Rattle.wf_frame.specs.declared.notes.ServiceReply.TheVariants as service
 use Rattle.wf_frame.specs.declared.notes.Refusal.{Refusal}
 use Rattle.wf_frame.specs.declared.notes.Refusal.TheVariants as refusal
 use Rattle.wf_frame.specs.Classes.{fate_number, fate_word}
@@ -31,8 +32,8 @@ kinds_are Set pairs ids = refl
 kinds_are (Now now) pairs ids = refl
 kinds_are (Accepted id None) pairs ids = refl
 kinds_are (Accepted id (Some dropped)) pairs ids = refl
-kinds_are (Send exchange station tid air None kind more) pairs ids = refl
-kinds_are (Send exchange station tid air (Some start) kind more) pairs ids = refl
+kinds_are (Send exchange station tid air None kind more eosp) pairs ids = refl
+kinds_are (Send exchange station tid air (Some start) kind more eosp) pairs ids = refl
 kinds_are Released pairs ids = refl
 kinds_are (Ba start b0 b1 b2 b3 wide) pairs ids = refl
 kinds_are (Done acked waiting failed) pairs ids = refl
@@ -54,6 +55,9 @@ kinds_are (brief.Group (group.Queued id)) pairs ids = refl
 kinds_are (brief.Group (group.Beacon count follows)) pairs ids = refl
 kinds_are (brief.Group (group.Send id number air more)) pairs ids = refl
 kinds_are (brief.Group (group.Done id)) pairs ids = refl
+kinds_are (brief.Service service.Set) pairs ids = refl
+kinds_are (brief.Service (service.Triggered class)) pairs ids = refl
+kinds_are (brief.Service service.Ended) pairs ids = refl
 -- begin refusals: tools/tables writes these lines
 kinds_are (Refused (refusal.Open count)) pairs ids = refl
 kinds_are (Refused (refusal.Room inside)) pairs ids = refl
