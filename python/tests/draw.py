@@ -44,7 +44,11 @@ BROADCAST = bytes([255] * 6)
 WORDS = {"join": "joined", "set_rate": "set", "sleep": "slept", "wake": "woken"}
 WORDS |= {"set_ampdu": "set", "stop": "stopped", "start": "started", "unsent": "marked", "give_up": "marked"}
 WORDS |= {"join_offload": "joined", "set_weight": "set", "plain": "joined", "begin": "begun", "free": "freed"}
+WORDS |= {"apsd": "set", "end_service": "ended"}
 GROUP_KINDS = (CallKind.GROUP, CallKind.GROUP, CallKind.BEACON, CallKind.GPULL, CallKind.GDONE)
+SERVICE_KINDS = (CallKind.APSD, CallKind.TRIGGER, CallKind.TRIGGER, CallKind.EOSP)
+# The words of calls about service periods, and their methods.
+SERVICES = [(name, name) for name in ("apsd", "apsd", "sleep", "trigger", "trigger", "trigger")] + [("eosp", "end_service")]
 # Numbers with the words before them, by method. A path does not know what a station passed up when its agreement ended.
 COUNTS = {"leave": "left", "flush": "flushed", "tick": "now", "rx": "charged", "hold": "held", "group": "queued"}
 
@@ -69,8 +73,8 @@ def answer_of(name: str, value: Any) -> str:
         return f"gdone {value}"
     if name == "cease" and isinstance(value, int):
         return f"ceased {value}"
-    if name == "poll":
-        return f"polled {AccessClass(value).word}"
+    if name in ("poll", "trigger"):
+        return f"{'polled' if name == 'poll' else 'triggered'} {AccessClass(value).word}"
     if name == "arrive":
         return " ".join(["released", *map(str, value)])
     return str(value)
@@ -84,6 +88,7 @@ def reply_line(reply: tables.ReplyStruct) -> str:
         Kind.NOW: f"now {reply.now}",
         Kind.ACCEPTED: f"accepted {reply.id}" + (f" dropped {reply.dropped}" if reply.has_dropped else ""),
         Kind.POLLED: f"polled {AccessClass(reply.class_ % 4).word}",
+        Kind.TRIGGERED: f"triggered {AccessClass(reply.class_ % 4).word}",
         Kind.CHARGED: f"charged {reply.deficit}",
         Kind.REAPED: f"reaped {reply.id} {Fate(reply.fate).word}",
         Kind.HELD: f"held {reply.start}",
@@ -201,18 +206,22 @@ class Draw:
         """A call of a burst, and its line."""
         if self.agreements and self.below(3) == 0:
             return self.drawn_agreement(station)
-        kinds = (CallKind.ENQUEUE, CallKind.REAP, CallKind.TICK, CallKind.RX, CallKind.POLL, CallKind.FLUSH)
+        kinds = (CallKind.ENQUEUE, CallKind.REAP, CallKind.TICK, CallKind.RX, CallKind.POLL, CallKind.FLUSH, *SERVICE_KINDS)
         kind = self.random.choice(kinds + GROUP_KINDS if self.has_groups else kinds)
         call, class_ = Call(kind), AccessClass(self.below(4))
         made = call.struct
         made.station, made.tid, made.flow, made.length = station, self.below(9), self.below(20), 1 + self.below(300)
         made.by, made.air, made.class_ = self.below(2000), self.below(2000), class_
+        made.classes, made.most = self.below(17), self.below(6)
         lines = {
             CallKind.ENQUEUE: f"enq {station} {made.tid} {made.flow} {made.length}",
             CallKind.TICK: f"tick {made.by}",
             CallKind.RX: f"rx {station} {class_.word} {made.air}",
             CallKind.POLL: f"poll {station}",
             CallKind.FLUSH: f"flush {station} {made.tid}",
+            CallKind.APSD: f"apsd {station} {made.classes} {made.most}",
+            CallKind.TRIGGER: f"trigger {station}",
+            CallKind.EOSP: f"eosp {station}",
             CallKind.GROUP: f"group {made.length}",
         }
         return call, lines.get(kind, kind.word)
@@ -256,6 +265,15 @@ class Draw:
         """The arguments of the method `group`."""
         return (length,)
 
+    def service(self, station: int) -> None:
+        """A call about service periods, or a sleep, without which there are none."""
+        line, name = self.random.choice(SERVICES)
+        if name == "apsd":
+            classes, most = self.below(16 if self.below(50) else 18), self.below(6)
+            self.call(f"apsd {station} {classes} {most}", "apsd", station, classes, most)
+        else:
+            self.call(f"{line} {station}", name, station)
+
     def other(self, station: int) -> None:
         """One of the other calls."""
         class_ = AccessClass(self.below(4))
@@ -296,6 +314,8 @@ class Draw:
         station = self.station()
         if self.has_groups and self.below(6) == 0:
             self.group()
+        elif self.below(8) == 0:
+            self.service(station)
         elif which < 36:
             self.enqueue(station)
         elif which < 54:
@@ -373,9 +393,12 @@ class PathDraw(Draw):
         self.look_at(exchange.station, exchange.tid)
         sent = self.handle.sent(exchange.number)
         assert sent == (exchange.station, exchange.transmissions, exchange.tid, exchange.request)
+        assert not (exchange.eosp and self.handle.in_service(exchange.station))
         for index, number in enumerate(exchange.ids):
             assert self.handle.frame_id(exchange.number, index) == number
             header, tag = self.handle.header(exchange.number, index), self.handle.frame_tag(exchange.number, index)
+            is_last = index == len(exchange.ids) - 1
+            assert header[24] == exchange.tid + (16 if exchange.eosp and is_last else 0)
             try:
                 octets = self.handle.mpdu(exchange.number, index)
             except errors.NoBody:

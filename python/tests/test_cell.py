@@ -126,6 +126,19 @@ class Calls(unittest.TestCase):
                     cell.group(length)
             self.assertEqual(list(cell.trace())[1:-1], ["group 1000", "group 1", "beacon", "gpull", "gdone"])
 
+    def test_service_periods(self) -> None:
+        with Cell(stations=1, calls=40) as cell:
+            cell.join(0)
+            cell.apsd(0, 1 << AccessClass.VO, 2)
+            cell.sleep(0)
+            cell.enqueue(0, 100, tid=6)
+            self.assertEqual(cell.trigger(0), AccessClass.VO)
+            self.assertEqual(str(cell.pull(AccessClass.VO)), "send 0 sta 0 tid 6 air 256 data 0:0 eosp")
+            with self.assertRaises(errors.Nothing):
+                cell.end_service(0)
+            lines = ["apsd 0 8 2", "sleep 0", "enq 0 6 0 100", "trigger 0", "pull vo", "eosp 0"]
+            self.assertEqual(list(cell.trace())[2:-1], lines)
+
     def test_numbers_that_do_not_fit_are_errors(self) -> None:
         cell = self.cell
         for call in (lambda: cell.arrive(0, 65536), lambda: cell.done(-1, True), lambda: cell.rx(0, 4, 1)):

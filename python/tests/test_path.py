@@ -329,6 +329,10 @@ class Calls(unittest.TestCase):
             lambda: self.path.group(BROADCAST, 65536),
             lambda: self.path.group(BROADCAST, 1, -1),
             lambda: self.path.group_header(b"1"),
+            lambda: self.path.apsd(0, 256),
+            lambda: self.path.apsd(0, 0, 256),
+            lambda: self.path.trigger(65536),
+            lambda: self.path.end_service(-1),
             lambda: self.path.octets(0, 256),
             lambda: self.path.codel(2**32),
             lambda: self.path.pending(0, 4),
@@ -402,6 +406,51 @@ class Calls(unittest.TestCase):
                 path.group(BROADCAST, 0)
             path.wake(0)
             self.assertEqual(path.group_pull().frame, Group(1, 100, 0, b"\1\0\x5e\0\0\1"))
+
+    def test_a_service_period_has_the_frames_of_its_classes(self) -> None:
+        path, vo, vi = self.path, AccessClass.VO, AccessClass.VI
+        path.join(0)
+        path.apsd(0, 1 << vi | 1 << vo, 2)
+        path.sleep(0)
+        for tid in (6, 6, 6, 4):
+            path.enqueue(0, 100, tid=tid)
+        self.assertEqual((path.tim(), path.in_service(0)), (b"\5\4\0\1\0\0", False))
+        with self.assertRaises(errors.Nothing):
+            path.poll(0)
+        self.assertEqual((path.trigger(0), path.in_service(0)), (vo, True))
+        self.assertEqual(str(path.pull(vo)), "send 0 sta 0 tid 6 air 420 data 0:0 1:1 more eosp")
+        # The TID and the EOSP bit share an octet, which only the last frame of the service period has with both.
+        self.assertEqual([path.header(0, index)[24] for index in range(2)], [6, 6 + 16])
+        self.assertFalse(path.in_service(0) or path.in_service(1) or path.in_service(70_000))
+        self.assertIsNone(path.try_pull(vi))
+        path.done_lost(0)
+        self.assertEqual(path.trigger(0), vo)
+        sent = path.pull(vi)
+        self.assertEqual((sent.ids, sent.more, sent.eosp), ([3], True, False))
+        self.assertTrue(path.in_service(0))
+
+    def test_a_service_period_ends_without_frames(self) -> None:
+        path = self.path
+        path.join(0)
+        with self.assertRaises(errors.BadClasses):
+            path.apsd(0, 16)
+        path.apsd(0, 15)
+        with self.assertRaises(errors.Awake):
+            path.trigger(0)
+        path.sleep(0)
+        with self.assertRaises(errors.Asleep):
+            path.apsd(0, 15)
+        with self.assertRaises(errors.Nothing):
+            path.trigger(0)
+        path.enqueue(0, 100)
+        self.assertEqual(path.trigger(0), BE)
+        with self.assertRaises(errors.Polled):
+            path.trigger(0)
+        path.flush(0, 0)
+        path.end_service(0)
+        self.assertFalse(path.in_service(0))
+        with self.assertRaises(errors.Nothing):
+            path.end_service(0)
 
     def test_the_readers(self) -> None:
         path = self.path

@@ -146,8 +146,8 @@ class Handle:
         ids, numbers = self._ids[:count].tolist(), self._numbers[:count].tolist()
         number, station, tid, air = reply.exchange, reply.station, reply.tid, reply.air
         request, more = reply.request != 0, reply.more != 0
-        batch, plain = reply.batch != 0, reply.plain != 0
-        return Exchange(number, station, tid, air, request, reply.start, more, ids, numbers, batch, plain)
+        batch, plain, eosp = reply.batch != 0, reply.plain != 0, reply.eosp != 0
+        return Exchange(number, station, tid, air, request, reply.start, more, ids, numbers, batch, plain, eosp)
 
     def _beacon(self) -> Beacon:
         """Returns the answer to a beacon."""

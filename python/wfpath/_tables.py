@@ -86,6 +86,8 @@ class Kind(enum.IntEnum):
     BEACON = 25
     GSEND = 26
     GDONE = 27
+    TRIGGERED = 28
+    ENDED = 29
 
     @property
     def word(self) -> str:
@@ -127,6 +129,9 @@ class CallKind(enum.IntEnum):
     BEACON = 28
     GPULL = 29
     GDONE = 30
+    APSD = 31
+    TRIGGER = 32
+    EOSP = 33
 
     @property
     def word(self) -> str:
@@ -391,8 +396,9 @@ class ReplyStruct(ctypes.Structure):
     more: int
     batch: int
     plain: int
+    eosp: int
 
-    LAYOUT = "@QQQQqIIHHHHHBBBBBBBBBB"
+    LAYOUT = "@QQQQqIIHHHHHBBBBBBBBBBB"
     _fields_ = [
         ("exchange", ctypes.c_uint64),
         ("id", ctypes.c_uint64),
@@ -416,6 +422,7 @@ class ReplyStruct(ctypes.Structure):
         ("more", ctypes.c_uint8),
         ("batch", ctypes.c_uint8),
         ("plain", ctypes.c_uint8),
+        ("eosp", ctypes.c_uint8),
     ]
 
 
@@ -657,8 +664,10 @@ class CallStruct(ctypes.Structure):
     streams: int
     heard: int
     speed: int
+    classes: int
+    most: int
 
-    LAYOUT = "@QIIIIIHHHHHHBBBBBBBBBBBB"
+    LAYOUT = "@QIIIIIHHHHHHBBBBBBBBBBBBBB"
     _fields_ = [
         ("exchange", ctypes.c_uint64),
         ("flow", ctypes.c_uint32),
@@ -684,6 +693,8 @@ class CallStruct(ctypes.Structure):
         ("streams", ctypes.c_uint8),
         ("heard", ctypes.c_uint8),
         ("speed", ctypes.c_uint8),
+        ("classes", ctypes.c_uint8),
+        ("most", ctypes.c_uint8),
     ]
 
 
@@ -1060,6 +1071,32 @@ FUNCTIONS: dict[str, tuple[Any, tuple[Any, ...]]] = {
         ),
     ),
     "wf_path_group_counts": (None, (ctypes.POINTER(PathStruct), ctypes.POINTER(GroupCountsStruct),)),
+    "wf_path_apsd": (
+        ctypes.c_int32,
+        (
+            ctypes.POINTER(PathStruct),
+            ctypes.c_uint16,
+            ctypes.c_uint8,
+            ctypes.c_uint8,
+            ctypes.POINTER(ReplyStruct),
+        ),
+    ),
+    "wf_path_trigger": (
+        ctypes.c_int32,
+        (
+            ctypes.POINTER(PathStruct),
+            ctypes.c_uint16,
+            ctypes.POINTER(ReplyStruct),
+        ),
+    ),
+    "wf_path_end_service": (
+        ctypes.c_int32,
+        (
+            ctypes.POINTER(PathStruct),
+            ctypes.c_uint16,
+            ctypes.POINTER(ReplyStruct),
+        ),
+    ),
     "wf_path_sent": (
         ctypes.c_int32,
         (
@@ -1188,6 +1225,7 @@ FUNCTIONS: dict[str, tuple[Any, tuple[Any, ...]]] = {
     "wf_path_exchanges": (ctypes.c_uint64, (ctypes.POINTER(PathStruct),)),
     "wf_path_open_count": (ctypes.c_uint32, (ctypes.POINTER(PathStruct),)),
     "wf_path_live": (ctypes.c_int32, (ctypes.POINTER(PathStruct), ctypes.c_uint16,)),
+    "wf_path_in_service": (ctypes.c_int32, (ctypes.POINTER(PathStruct), ctypes.c_uint16,)),
     "wf_path_tally": (None, (ctypes.POINTER(PathStruct), ctypes.POINTER(TallyStruct),)),
     "wf_path_share": (
         ctypes.c_int32,

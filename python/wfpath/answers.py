@@ -35,7 +35,8 @@ class Exchange(NamedTuple):
 
     `air` is in microseconds. `ids` and `numbers` are the frames and their sequence numbers; in a batch, whose
     frames the device numbers, the numbers are 0. `start` is the start of the BlockAckReq. `more` says whether the
-    station has more to be sent.
+    station has more to be sent. `eosp` says whether it is the last exchange of a service period: its last frame
+    has the EOSP bit.
     """
 
     number: int
@@ -49,6 +50,7 @@ class Exchange(NamedTuple):
     numbers: list[int]
     batch: bool = False
     plain: bool = False
+    eosp: bool = False
 
     @property
     def transmissions(self) -> int:
@@ -59,8 +61,8 @@ class Exchange(NamedTuple):
         data = "batch" if self.batch else "plain" if self.plain else "data"
         sent = f"bar {self.start}" if self.request else data
         frames = "".join(f" {one}" if self.batch else f" {one}:{at}" for one, at in zip(self.ids, self.numbers))
-        more = " more" if self.more else ""
-        return f"send {self.number} sta {self.station} tid {self.tid} air {self.air} {sent}{frames}{more}"
+        bits = (" more" if self.more else "") + (" eosp" if self.eosp else "")
+        return f"send {self.number} sta {self.station} tid {self.tid} air {self.air} {sent}{frames}{bits}"
 
 
 class Done(NamedTuple):

@@ -151,6 +151,25 @@ class Cell(Handle):
         self._of_station(CallKind.POLL, station)
         return CLASSES[self._reply.class_]
 
+    def apsd(self, station: int, classes: int, most: int = 0) -> None:
+        """Sets the delivery-enabled classes of a station that is awake, and the most frames of its service
+        periods; 0 limits nothing. `classes` is the sum of 1 for bk, 2 for be, 4 for vi and 8 for vo."""
+        if station >> 16 or classes >> 8 or most >> 8:
+            raise out_of_range(station=(station, 16), classes=(classes, 8), most=(most, 8))
+        call = self._calls[CallKind.APSD]
+        call.struct.station, call.struct.classes, call.struct.most = station, classes, most
+        self._must(self._code(call))
+
+    def trigger(self, station: int) -> AccessClass:
+        """Says that a sleeping station sent a trigger frame, which opens a service period. Returns the class to
+        pull first. Raises Nothing if no delivery-enabled class can send."""
+        self._of_station(CallKind.TRIGGER, station)
+        return CLASSES[self._reply.class_]
+
+    def end_service(self, station: int) -> None:
+        """Ends the service period of a station to which the device sent a QoS Null frame with the EOSP bit."""
+        self._of_station(CallKind.EOSP, station)
+
     def set_ampdu(self, station: int, octets: int) -> None:
         """Sets the most octets of aggregates of VHT and HE to a station, 4,096 to 6,500,631."""
         if station >> 16 or octets >> 32:

@@ -205,11 +205,11 @@ class Nothing(Refused):
 
 
 class Asleep(Refused):
-    """The station is asleep already."""
+    """`sleep`: the station is asleep already; `apsd`: the station is asleep."""
 
     code = 22
     word = "asleep"
-    about = "the station is asleep already"
+    about = "`sleep`: the station is asleep already; `apsd`: the station is asleep"
 
 
 class Awake(Refused):
@@ -221,11 +221,15 @@ class Awake(Refused):
 
 
 class Polled(Refused):
-    """The station has a credit that is not spent yet."""
+    """`poll`: the station has a credit that is not spent yet; `trigger`: its service period is open already.
+    """
 
     code = 24
     word = "polled"
-    about = "the station has a credit that is not spent yet"
+    about = (
+        "`poll`: the station has a credit that is not spent yet; `trigger`: its service period is open "
+        "already"
+    )
 
 
 class Debt(Refused):
@@ -368,6 +372,14 @@ class Flying(Refused):
     code = 41
     word = "flying"
     about = "a group frame is on the air"
+
+
+class BadClasses(Refused):
+    """The delivery-enabled classes are not 0 to 15."""
+
+    code = 42
+    word = "bad-classes"
+    about = "the delivery-enabled classes are not 0 to 15"
 
 
 class NoMemory(WfError):
@@ -569,6 +581,7 @@ ERRORS: dict[int, type[WfError]] = {
     39: Legacy,
     40: Buffered,
     41: Flying,
+    42: BadClasses,
     60: NoMemory,
     61: BadLength,
     62: SmallBuffer,

@@ -134,6 +134,23 @@ class Path(Handle):
         self._of_station(C.wf_path_poll, station)
         return CLASSES[self._reply.class_]
 
+    def apsd(self, station: int, classes: int, most: int = 0) -> None:
+        """Sets the delivery-enabled classes of a station that is awake, and the most frames of its service
+        periods; 0 limits nothing. `classes` is the sum of 1 for bk, 2 for be, 4 for vi and 8 for vo."""
+        if station >> 16 or classes >> 8 or most >> 8:
+            raise out_of_range(station=(station, 16), classes=(classes, 8), most=(most, 8))
+        self._must(C.wf_path_apsd(self._at, station, classes, most, self._reply_at))
+
+    def trigger(self, station: int) -> AccessClass:
+        """Says that a sleeping station sent a trigger frame, which opens a service period. Returns the class to
+        pull first. Raises Nothing if no delivery-enabled class can send."""
+        self._of_station(C.wf_path_trigger, station)
+        return CLASSES[self._reply.class_]
+
+    def end_service(self, station: int) -> None:
+        """Ends the service period of a station to which the device sent a QoS Null frame with the EOSP bit."""
+        self._of_station(C.wf_path_end_service, station)
+
     def set_ampdu(self, station: int, octets: int) -> None:
         """Sets the most octets of aggregates of VHT and HE to a station, 4,096 to 6,500,631."""
         if station >> 16 or octets >> 32:
@@ -470,6 +487,10 @@ class Path(Handle):
     def live(self, station: int) -> bool:
         """Returns whether a station is live."""
         return station >> 16 == 0 and bool(C.wf_path_live(self._at, station))
+
+    def in_service(self, station: int) -> bool:
+        """Returns whether a service period of a station is open."""
+        return station >> 16 == 0 and bool(C.wf_path_in_service(self._at, station))
 
     def tally(self) -> Tally:
         """Returns how many frames were accepted, and how many of them have each fate."""

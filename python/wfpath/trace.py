@@ -39,6 +39,9 @@ FIELDS: dict[CallKind, tuple[str, ...]] = {
     CallKind.BEACON: (),
     CallKind.GPULL: (),
     CallKind.GDONE: (),
+    CallKind.APSD: ("station", "classes", "most"),
+    CallKind.TRIGGER: ("station",),
+    CallKind.EOSP: ("station",),
 }
 WORDS = {CallKind.ENQUEUE: "enq"}
 
