@@ -22,6 +22,7 @@ from .program import OutOfCalls
 from .rates import Rate
 from .receivers import Receivers
 from .scenario import Flow, Scenario, Station
+from .service import ServicePeriods
 from .traffic import Arrival, Backlog, Eager, Source, Tcp, Timed
 from .web import Browser
 
@@ -35,7 +36,7 @@ class Served:
 
     airtime: int = 0  # microseconds that exchanges to it were charged
     uplink: int = 0  # microseconds of what it sent
-    access: int = 0  # microseconds of access before either, and of ADDBA exchanges
+    access: int = 0  # microseconds of access before either, and of ADDBA exchanges and QoS Null frames
     aggregates: int = 0
     transmissions: int = 0
     retries: int = 0
@@ -53,10 +54,12 @@ class Bench:
         self.medium = Medium(scenario.air, scenario.seed)
         self.access_point = AccessPoint()
         self.agreements = Agreements(scenario, path, self.access_point)
+        self.services = ServicePeriods(scenario, self.clock, path, self.access_point)
         self.device = Device(scenario.setting("attempts"))
         self.uplinks = [Uplink(station, scenario.setting("cap")) for station in scenario.stations]
         self.open = dict.fromkeys(CLASSES, 0)
         self.may_send = dict.fromkeys(CLASSES, False)  # whether a pull of the class might find something
+        self.is_idle = dict.fromkeys(CLASSES, False)  # whether the latest pull of the class found no station
         self.shares_limit = scenario.setting("aql_total") > 0  # whether the end of an exchange may let any class send
         self.here = [False] * len(scenario.stations)
         self.open_of = [0] * len(scenario.stations)
@@ -163,6 +166,8 @@ class Bench:
     def join(self, station: Station) -> None:
         self.path.join(station)
         self.path.set_rate(station, station.rate)
+        if station.apsd:
+            self.path.apsd(station)
         self.here[station.number] = True
 
     def leave(self, station: Station) -> None:
@@ -181,6 +186,7 @@ class Bench:
         self.device.forget(station.number)
         self.path.leave(station)
         self.multicast.wake(station)
+        self.services.wake(station)
 
     def change_rate(self, station: Station, rate: Rate) -> None:
         self.path.set_rate(station, rate)
@@ -189,12 +195,14 @@ class Bench:
     def sleep(self, station: Station) -> None:
         self.path.sleep(station)
         self.multicast.sleep(station)
+        self.services.sleep(station)
         self.agreements.sleep(station)
         self.cancel(station)
 
     def wake(self, station: Station) -> None:
         self.path.wake(station)
         self.multicast.wake(station)
+        self.services.wake(station)
         self.agreements.wake(station)
         self.may_send = dict.fromkeys(CLASSES, True)
         self.unblock()
@@ -322,6 +330,8 @@ class Bench:
         for frame_class, may_send in self.may_send.items():
             if may_send and self.open[frame_class] < self.scenario.air.inflight and not self.leaving:
                 self.pull_class(frame_class)
+        if self.services.open:
+            self.end_services()
         if not self.medium.is_busy:
             self.start_air()
 
@@ -331,14 +341,24 @@ class Bench:
             exchange = self.path.pull(frame_class)
             if exchange is None:
                 self.may_send[frame_class] = False
+                self.is_idle[frame_class] = not self.path.is_ahead
                 break
             self.open[frame_class] += 1
             self.open_of[exchange.station] += 1
+            self.services.opened(exchange)
             self.access_point.add(exchange)
             if exchange.is_batch:
                 self.device.add(exchange)
             if exchange.is_plain:
                 self.agreements.opened(exchange)
+
+    def end_services(self) -> None:
+        """Ends the service periods of stations that have no open exchange, and for which pulls found nothing."""
+        for number in sorted(self.services.open):
+            station = self.scenario.stations[number]
+            is_done = all(self.is_idle[one] and not self.may_send[one] for one in station.apsd)
+            if is_done and not self.open_of[number]:
+                self.services.end(station)
 
     def start_air(self) -> None:
         """Begins the next transmission, if there is one: a beacon, else a group frame, else an exchange."""
@@ -355,8 +375,16 @@ class Bench:
             self.clock.at(self.clock.now + access + upward.air, lambda: self.finish_uplink(upward, access))
         else:
             exchange = self.access_point.take()
-            finish = self.finish_batch if exchange.is_batch else self.finish_addba if exchange.is_addba else self.finish
+            finish = self.finish_of(exchange)
             self.clock.at(self.clock.now + access + exchange.air, lambda: finish(exchange, access))
+
+    def finish_of(self, exchange: Exchange) -> Callable[[Exchange, int], None]:
+        """What ends a transmission of an exchange."""
+        if exchange.is_batch:
+            return self.finish_batch
+        if exchange.is_addba:
+            return self.finish_addba
+        return self.finish_uncharged if exchange.is_null else self.finish
 
     def draw(self, station: Station, numbers: random.Random, count: int) -> list[bool]:
         """Which of this many transmissions arrive."""
@@ -381,10 +409,14 @@ class Bench:
         self.remove_if_leaving(station)
 
     def finish_addba(self, exchange: Exchange, access: int) -> None:
-        """An ADDBA request and its response end. They are charged to no station."""
-        self.medium.is_busy = False
+        """An ADDBA request and its response end."""
         if self.agreements.answered(exchange):
             self.may_send[CLASS_OF_TID[exchange.tid]] = True
+        self.finish_uncharged(exchange, access)
+
+    def finish_uncharged(self, exchange: Exchange, access: int) -> None:
+        """A transmission ends that the path does not know. It is charged to no station."""
+        self.medium.is_busy = False
         if self.clock.now > self.warmup:
             self.served[exchange.station].access += exchange.air + access
 
@@ -474,6 +506,8 @@ class Bench:
         arrived = self.draw(station, self.uplink_losses[station.number], len(exchange.frames))
         for frame in self.uplinks[station.number].finish(exchange, arrived):
             frame.arrived(self.clock.now)
+        if any(arrived) and self.here[station.number] and self.services.heard(station, exchange.frame_class):
+            self.may_send.update(dict.fromkeys(station.apsd, True))
         if self.here[station.number] and self.scenario.air.charge_uplink:
             self.path.received(station, exchange.frame_class, exchange.air)
         if self.clock.now > self.warmup:

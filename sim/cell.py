@@ -9,6 +9,7 @@ import ctypes
 from collections.abc import Sequence
 from typing import Any
 
+from wfpath.errors import Ahead
 from wfpath.raw import GREATEST_BODY, AccessClass, Call, CallKind, Fate, Form, NoMemory, PacketStruct, RawCell, Settings
 
 from .fields import Fault
@@ -148,6 +149,15 @@ class Cell(Held):
             return None
         return AccessClass(self.reply.class_).word
 
+    def apsd(self, station: Station) -> None:
+        self.must(CallKind.APSD, station=station.number, classes=station.classes, most=station.most)
+
+    def trigger(self, station: Station) -> bool:
+        return not self.ask(CallKind.TRIGGER, station=station.number)
+
+    def end_service(self, station: Station) -> None:
+        self.must(CallKind.EOSP, station=station.number)
+
     def received(self, station: Station, frame_class: str, air: int) -> None:
         """Charges a station for what it sent. The machine refuses that to a station whose deficit is as low as it can be."""
         self.spend(1)
@@ -224,12 +234,14 @@ class Cell(Held):
             self.settle()
 
     def pull(self, frame_class: str) -> Exchange | None:
-        if self.ask(CallKind.PULL, class_=CLASSES[frame_class]):
+        code = self.ask(CallKind.PULL, class_=CLASSES[frame_class])
+        self.is_ahead = code == Ahead.code
+        if code:
             return None
         reply, frames = self.reply, self.frames
         self.raw.read_frames(self.at, self.raw.frames_at)
         frames = [frames[number] for number in self.sent_ids[: self.raw.frames.count]]
-        kinds = {"is_batch": bool(reply.batch), "is_plain": bool(reply.plain)}
+        kinds = {"is_batch": bool(reply.batch), "is_plain": bool(reply.plain), "eosp": bool(reply.eosp)}
         return Exchange(reply.exchange, reply.station, reply.tid, reply.air, frames, **kinds)
 
     def finish(self, exchange: Exchange, arrived: Sequence[bool], heard: bool) -> list[Frame]:

@@ -10,6 +10,7 @@ from typing import Any, TextIO
 from .frames import CAUSES
 from .measure import PERCENTILES, FlowResult, MulticastResult, Result, StationResult, nearest_rank
 from .scenario import Scenario
+from .service import Service
 
 Numbers = dict[str, Any]
 KINDS_OF_ROWS = ("station", "flow", "multicast")
@@ -24,7 +25,7 @@ FLOW_COLUMNS = (
     *("direction", "mos", "transfers", "transfer_mean_us", *(f"transfer_p{percent}_us" for percent in PERCENTILES)),
 )
 
-
+SERVICE_COLUMNS = ("triggers", "service_periods", "service_frames", "null_frames")  # of stations with service periods
 MULTICAST_COLUMNS = ("received_frames", "lost_frames", "missed_frames", "refused_frames")  # next to columns of flows
 
 
@@ -55,6 +56,11 @@ def flow_numbers(one: FlowResult) -> Numbers:
     }
 
 
+def service_numbers(one: Service) -> Numbers:
+    """The numbers of the service periods of a station."""
+    return dict(zip(SERVICE_COLUMNS, (one.triggers, one.periods, one.frames, one.nulls)))
+
+
 def station_numbers(one: StationResult) -> Numbers:
     return {
         "station": one.station.name,
@@ -67,6 +73,7 @@ def station_numbers(one: StationResult) -> Numbers:
         "throughput_up_mbit_per_s": one.mbit_up,
         "aggregate_frames": one.aggregate,
         "retries_frames": one.retries,
+        **(service_numbers(one.service) if one.service else {}),
     }
 
 
@@ -134,9 +141,10 @@ def rows_of(runs: Sequence[Numbers], kind: str) -> list[Numbers]:
 
 def write_csv(file: TextIO, runs: Sequence[Numbers]) -> None:
     """Writes for each run a row for each station, for each flow, and for each station of a multicast flow. Cells that have no meaning
-    for a row are empty. The columns of multicast flows exist only if there is such a flow."""
+    for a row are empty. The columns of service periods and of multicast flows exist only if there are some."""
     parameters = list(runs[0]["parameters"])
     head = ["path", "seed", *parameters, "simulated_s", "row", "station", "flow", *STATION_COLUMNS, *FLOW_COLUMNS]
+    head += SERVICE_COLUMNS if any("triggers" in one for one in runs[0]["stations"]) else ()
     head += MULTICAST_COLUMNS if runs[0]["multicasts"] else ()
     writer = csv.DictWriter(file, head, lineterminator="\n", extrasaction="ignore")
     writer.writeheader()

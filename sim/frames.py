@@ -47,6 +47,9 @@ class Exchange:
     is_batch: bool = False  # whether the station's device numbers and repeats the frames
     is_plain: bool = False  # whether it is one frame without an agreement
     is_addba: bool = False  # whether it is an ADDBA request with its response, which the path does not know
+    is_null: bool = False  # whether it is a QoS Null frame with its Ack, which the path does not know
+    is_served: bool = False  # whether it is part of a service period
+    eosp: bool = False  # whether it is the last one of a service period
 
     @property
     def charged(self) -> int:
@@ -71,6 +74,7 @@ class Path(ABC):
     ended: list[Frame] = field(default_factory=list)  # frames that ended since `take_ended`
     calls: int = 0  # calls that the machine was asked; 0 for a model
     summary: list[str] = field(default_factory=list)  # the machine's summary
+    is_ahead: bool = False  # whether the latest pull was refused because of the airtime in flight of all classes
 
     def take_ended(self) -> list[Frame]:
         """The frames that ended since this was asked last."""
@@ -152,6 +156,16 @@ class Path(ABC):
     def poll(self, station: Station) -> str | None:
         """The class that a sleeping station's poll got a credit for, if any."""
         return None
+
+    def apsd(self, station: Station) -> None:
+        """Notes the delivery-enabled classes of a station, and the most frames of its service periods."""
+
+    def trigger(self, station: Station) -> bool:
+        """A sleeping station sent a trigger frame. Returns whether this opens a service period, or there is nothing to send."""
+        return False
+
+    def end_service(self, station: Station) -> None:
+        """Notes that the device ended a service period by a QoS Null frame."""
 
     def group(self, octets: int) -> bool:
         """Takes a group frame, and returns whether it has room for it. A model has no group frames, and no beacons."""

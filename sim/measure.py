@@ -7,9 +7,10 @@ from collections import Counter
 from collections.abc import Iterator, Sequence
 from dataclasses import dataclass, field
 
-from .bench import Bench, Served
+from .bench import Bench
 from .frames import CAUSES, Frame
 from .scenario import Flow, Scenario, Station
+from .service import Service
 from .voice import score
 
 PERCENTILES = (50, 95, 99)
@@ -30,6 +31,7 @@ class StationResult:
     mbit_up: float  # of flows that it sends
     aggregate: float  # mean frames of an aggregate
     retries: int
+    service: Service | None = None  # if some of its classes are delivery-enabled
 
 
 def unpacked(time: int) -> int | None:
@@ -192,8 +194,9 @@ def flow_result(flow: Flow, frames: Sequence[Frame], loads: Sequence[tuple[int, 
     return result
 
 
-def station_result(station: Station, served: Served, octets: tuple[int, int], everything: int, span: float) -> StationResult:
+def station_result(station: Station, bench: Bench, octets: tuple[int, int], everything: int, span: float) -> StationResult:
     """The result of a station with this many octets released to it and from it, in a span of microseconds."""
+    served = bench.served[station.number]
     return StationResult(
         station=station,
         airtime=served.airtime + served.uplink,
@@ -203,6 +206,7 @@ def station_result(station: Station, served: Served, octets: tuple[int, int], ev
         mbit_up=8 * octets[1] / span,
         aggregate=served.transmissions / served.aggregates if served.aggregates else 0.0,
         retries=served.retries,
+        service=bench.services.counts[station.number] if station.apsd else None,
     )
 
 
@@ -237,8 +241,8 @@ def measure(bench: Bench, label: str, model: str, reached: int, took: float) -> 
     scenario = bench.scenario
     span = max(reached - bench.warmup, 1)
     everything = sum(served.airtime + served.uplink for served in bench.served)
-    rows = zip(scenario.stations, bench.served, octets_released(bench))
-    stations = [station_result(station, served, octets, everything or 1, span) for station, served, octets in rows]
+    rows = zip(scenario.stations, octets_released(bench))
+    stations = [station_result(station, bench, octets, everything or 1, span) for station, octets in rows]
     wanting = always_wanting(scenario)
     return Result(
         label=label,

@@ -27,23 +27,28 @@ class Contender:
 
 
 class AccessPoint(Contender):
-    """The exchanges that the driver holds, the most urgent class first."""
+    """The exchanges that the driver holds: first those of service periods, in the order of their pulls, then the most urgent class."""
 
     def __init__(self) -> None:
+        self.served: list[Exchange] = []
         self.waiting: dict[str, list[Exchange]] = {frame_class: [] for frame_class in CLASSES}
 
+    def queue(self, exchange: Exchange) -> list[Exchange]:
+        """The queue of an exchange."""
+        return self.served if exchange.is_served else self.waiting[CLASS_OF_TID[exchange.tid]]
+
     def add(self, exchange: Exchange) -> None:
-        self.waiting[CLASS_OF_TID[exchange.tid]].append(exchange)
+        self.queue(exchange).append(exchange)
         self.count += 1
 
     def add_again(self, exchange: Exchange) -> None:
-        """Takes a batch that the device repeats, or an ADDBA request, before the others of its class."""
-        self.waiting[CLASS_OF_TID[exchange.tid]].insert(0, exchange)
+        """Takes a batch that the device repeats, or an ADDBA request, before the others of its queue."""
+        self.queue(exchange).insert(0, exchange)
         self.count += 1
 
     def remove(self, exchange: Exchange) -> bool:
         """Takes an exchange back. Returns whether it waited."""
-        waiting = self.waiting[CLASS_OF_TID[exchange.tid]]
+        waiting = self.queue(exchange)
         if exchange not in waiting:
             return False
         waiting.remove(exchange)
@@ -53,7 +58,7 @@ class AccessPoint(Contender):
     def take(self) -> Exchange:
         """The exchange that goes on the air next."""
         self.count -= 1
-        return next(waiting for waiting in self.waiting.values() if waiting).pop(0)
+        return next(waiting for waiting in (self.served, *self.waiting.values()) if waiting).pop(0)
 
 
 @dataclass(slots=True)

@@ -10,7 +10,7 @@ from .fields import Fault, Table
 from .flows import KINDS, read_flows
 from .plots import PICTURES
 from .rates import LONGEST_ALONE, SIFS, WIDE_BLOCK_ACK, Legacy, Rate, parse_rate
-from .scenario import MACHINE, MODEL_SETTINGS, Air, Scenario, Station
+from .scenario import MACHINE, MODEL_SETTINGS, NUMBERED, Air, Scenario, Station
 from .settings import settings
 
 __all__ = ["KINDS", "LONGEST", "MOST_SEED", "from_table", "load", "read"]
@@ -23,6 +23,8 @@ STANDARD_LOSS = 0.001
 STANDARD_BUFFERED = 128  # group frames that may wait: as many as in mac80211
 STANDARD_BEACON = 102_400  # microseconds between beacons, if group frames may wait
 AGREEMENTS = ("join", "first-frame")  # when agreements begin
+MOST_SERVED = 255  # frames of a service period
+APSD_EXPECTED = 'some of vo, vi, be and bk, each once, such as "vo vi"'
 RATE_EXPECTED = 'a rate as in a trace, such as "15 20 short", "vht 9 80 short 2", "he 11 80 800 2", "ofdm 54" or "dsss 2"'
 
 
@@ -185,7 +187,11 @@ def read_station(table: Table, group: str, seconds: float) -> Station:
         charge_error=table.number("charge_error", 0, 1, 0),
         offload=table.flag("offload"),
         plain=table.one_of("agreements", AGREEMENTS, AGREEMENTS[0]) == AGREEMENTS[1],
+        apsd=read_apsd(table),
+        most=table.whole("max", 0, MOST_SERVED, 0),
     )
+    if table.has("max") and not station.apsd:
+        raise table.wrong("max", "no max without apsd, since the station then has no service periods")
     if station.offload and table.has("window"):
         raise table.wrong("window", "no window, since the device of an offloaded station has its own")
     if station.offload and table.has("agreements"):
@@ -211,6 +217,16 @@ def read_rates(table: Table, first: float, last: float) -> list[tuple[int, Rate]
         changes.append((micros(change.number("at", first, last)), read_rate(change, "rate")))
         change.finish()
     return changes
+
+
+def read_apsd(table: Table) -> tuple[str, ...]:
+    """The delivery-enabled classes of a station; none if the file does not give them."""
+    if not table.has("apsd"):
+        return ()
+    classes = table.text("apsd").split()
+    if len(set(classes)) < len(classes) or not set(classes) <= set(NUMBERED):
+        raise table.wrong("apsd", APSD_EXPECTED)
+    return tuple(classes)
 
 
 def read_sleeps(table: Table, first: float, last: float) -> list[tuple[int, int]]:

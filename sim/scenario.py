@@ -14,6 +14,7 @@ MODEL_SETTINGS = {  # settings of the models: least, greatest and standard value
     "buffer": (1, 1_000_000, 123),  # frames of a class in the driver below `fifo` and `fq_codel`
     "fq_limit": (1, 1_000_000, 10_240),  # packets in the queues of `fq_codel`
 }
+NUMBERED = ("bk", "be", "vi", "vo")  # the classes by their numbers
 Sizes = tuple[tuple[int, float], ...]  # pairs of octets and a weight
 STANDARD_SIZES: Sizes = ((1500, 8), (576, 1), (100, 1))
 
@@ -58,6 +59,13 @@ class Station:
     charge_error: float = 0.0
     offload: bool = False  # whether the device numbers, aggregates and repeats its frames
     plain: bool = False  # whether it joins without agreements: that of a TID begins at its first frame
+    apsd: tuple[str, ...] = ()  # its delivery-enabled classes
+    most: int = 0  # frames of a service period; 0 for no limit
+
+    @property
+    def classes(self) -> int:
+        """The number of the set of its delivery-enabled classes."""
+        return sum(1 << NUMBERED.index(frame_class) for frame_class in self.apsd)
 
     @property
     def is_single(self) -> bool:

@@ -4,12 +4,12 @@ from __future__ import annotations
 from collections.abc import Sequence
 from typing import Any
 
-from .exports import Numbers
+from .exports import SERVICE_COLUMNS, Numbers
 from .frames import CAUSES
 from .intervals import Interval, interval
 from .measure import PERCENTILES
 from .scenario import Scenario
-from .table import MOST_COLUMNS, rows
+from .table import MOST_COLUMNS, SERVICES, rows
 
 Group = list[Numbers]  # the runs of one path and one point of a sweep, by seed
 
@@ -76,6 +76,16 @@ def multicast_table(group: Group) -> list[str]:
     return ["", *rows(["multicast", *counts, *delays], lines)] if lines else []
 
 
+def services_table(group: Group) -> list[str]:
+    """The table of stations with service periods. It is empty if there are none."""
+    lines = [
+        [station["station"], *(over(group, "stations", nth, name).text(0) for name in SERVICE_COLUMNS)]
+        for nth, station in enumerate(group[0]["stations"])
+        if "triggers" in station
+    ]
+    return ["", *rows(SERVICES, lines)] if lines else []
+
+
 def transfers_table(group: Group) -> list[str]:
     """The seconds that transfers and pages took, and the quality of calls, if there are any."""
     transfers, calls = [], []
@@ -132,7 +142,7 @@ def text(scenario: Scenario, runs: Sequence[Numbers], program: str) -> str:
     for group in groups:
         head = ", ".join(filter(None, (swept(group[0]), group[0]["path"])))
         lines += ["", f"== {head} ==", *stations_table(group), "", *flows_table(group)]
-        lines += [*multicast_table(group), *transfers_table(group), "", *foot(group)]
+        lines += [*multicast_table(group), *services_table(group), *transfers_table(group), "", *foot(group)]
     if len(groups) > 1:
         lines += ["", "== compared ==", *comparison(scenario, groups)]
     if program:

@@ -9,6 +9,7 @@ from .measure import PERCENTILES, Result, nearest_rank
 from .scenario import MACHINE, Scenario
 
 MOST_COLUMNS = 6  # stations, or flows, in a line of the comparison
+SERVICES = ("asleep", "triggers", "service periods", "frames", "QoS Null")  # the head of the table of service periods
 
 
 def rows(head: Sequence[str], lines: Sequence[Sequence[str]]) -> list[str]:
@@ -68,6 +69,15 @@ def multicast_table(result: Result) -> list[str]:
     return ["", *rows(head, lines)] if lines else []
 
 
+def services_table(result: Result) -> list[str]:
+    """The table of stations with service periods. It is empty if there are none."""
+    lines = []
+    for station in result.stations:
+        if one := station.service:
+            lines.append([station.station.name, *map(str, (one.triggers, one.periods, one.frames, one.nulls))])
+    return ["", *rows(SERVICES, lines)] if lines else []
+
+
 def transfers_table(result: Result) -> list[str]:
     """The seconds that transfers and pages took, if there are any."""
     lines = []
@@ -125,7 +135,8 @@ def text(scenario: Scenario, results: Sequence[Result], program: str) -> str:
     lines = [f"{scenario.title}: {scenario.seconds:g} s, seed {scenario.seed}. {delays}"]
     for result in results:
         lines += ["", f"== {result.label} ==", *stations_table(result), "", *flows_table(result)]
-        lines += [*multicast_table(result), *transfers_table(result), *calls_table(result), "", *foot(result)]
+        lines += [*multicast_table(result), *services_table(result), *transfers_table(result), *calls_table(result)]
+        lines += ["", *foot(result)]
     if len(results) > 1:
         lines += ["", "== compared ==", *comparison(scenario, results)]
     if program:

@@ -93,7 +93,7 @@ FAULTS = [  # a file's text, and what is reported after the file's name
     (GOOD + "[[station]]\npoll_ms = 0\n", "[[station]] 2: poll_ms = 0: expected a number from 1 to 60000"),
     (
         GOOD + "[[station]]\nspeed = 1\n",
-        '[[station]] 2: unknown key "speed": expected one of name, count, join, leave, rate, weight, window, loss, ack_loss, rates, sleeps, poll_ms, charge_bias, charge_error, offload, agreements',
+        '[[station]] 2: unknown key "speed": expected one of name, count, join, leave, rate, weight, window, loss, ack_loss, rates, sleeps, poll_ms, charge_bias, charge_error, offload, agreements, apsd, max',
     ),
     (GOOD + "[[station]]\nrates = 1\n", "[[station]] 2: rates = 1: expected tables [[rates]]"),
     (GOOD + "[[station]]\nrates = [{ at = 1 }]\n", "[[station]] 2 [[rates]] 1: rate is missing: expected a text of printable characters"),
