@@ -119,6 +119,7 @@ static int read_path(const struct wf_path *path) {
   wf_path_base(path, base);
   if (base[0] != 2 || wf_path_address(path, 1, address) || address[5] != 1) return 0;
   return wf_path_now(path) == WAIT + PERIOD && wf_path_exchanges(path) == 3 && wf_path_open_count(path) == 3 && wf_path_live(path, 0) == 1 &&
+         wf_path_in_service(path, 0) == 0 &&
          wf_path_share(path, 0, WF_BE, &share) == WF_OK && wf_path_tim(path, 0, 1, 0, tim) == 6 &&
          wf_path_tim_of(path, base, 2, 3, 1, tim) == 6 && wf_path_group_header(path, base, header) == WF_NOTHING && counts.accepted == 0 &&
          tally.accepted == 1 + FRAMES && tally.codel == 1 && wf_path_can_pull(path, WF_BE) == 0 && wf_path_listed(path, 0, WF_BE) > 0 &&

@@ -281,12 +281,28 @@ static void change_modes(void) {
   MUST("done_lost", wf_path_done_lost(&path, reply.exchange, 0, &reply));
   MUST("sleep", wf_path_sleep(&path, 1, &reply));
   paint();
-  if (wf_path_tim_of(&path, bss, tim) != 6 || tim[4] != (250 & 0xfe)) fail("the TIM of a BSS", tim[4]);
+  if (wf_path_tim_of(&path, bss, 0, 1, 0, tim) != 6 || tim[4] != (250 & 0xfe)) fail("the TIM of a BSS", tim[4]);
   note();
   MUST("waiting", wf_path_waiting(&path, 1, 0, &waiting));
   MUST("cease", wf_path_cease(&path, 1, 0, &reply));
   if (reply.count == 0 || reply.count != waiting) fail("the frames of an agreement", (int32_t)reply.count);
   MUST("free_tid", wf_path_free_tid(&path, 1, 0, &reply));
+  MUST("leave", wf_path_leave(&path, 1, &reply));
+}
+
+/* Lets station 1 sleep, and get frames in service periods of two frames. No other station has frames. */
+static void serve(void) {
+  MUST("join", wf_path_join(&path, 1, 64, 0, 3, 1, &reply));
+  MUST("apsd", wf_path_apsd(&path, 1, 1 << WF_BE, 2, &reply));
+  MUST("sleep", wf_path_sleep(&path, 1, &reply));
+  fill(1);
+  MUST("trigger", wf_path_trigger(&path, 1, &reply));
+  if (wf_path_in_service(&path, 1) != 1) fail("a service period", reply.class_);
+  MUST("pull", wf_path_pull(&path, WF_BE, &reply, &frames));
+  if (!reply.eosp || frames.count != 2 || wf_path_in_service(&path, 1)) fail("the last exchange of a service period", frames.count);
+  MUST("done_lost", wf_path_done_lost(&path, reply.exchange, 0, &reply));
+  MUST("trigger", wf_path_trigger(&path, 1, &reply));
+  MUST("end_service", wf_path_end_service(&path, 1, &reply));
   MUST("leave", wf_path_leave(&path, 1, &reply));
 }
 
@@ -326,6 +342,7 @@ static int run(void) {
   report_each();
   other_calls();
   change_modes();
+  serve();
   count += reap();
   wf_path_tally(&path, &tally);
   wf_path_free(&path);

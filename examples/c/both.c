@@ -104,10 +104,12 @@ static uint8_t some_kind(void) {
                                   WF_CALL_ARRIVE, WF_CALL_ARRIVE, WF_CALL_ANSWER, WF_CALL_ANSWER, WF_CALL_DONE, WF_CALL_DONE, WF_CALL_UNSENT, WF_CALL_GIVEUP};
   static const uint8_t MODES[] = {WF_CALL_HOLD, WF_CALL_BEGIN, WF_CALL_BEGIN, WF_CALL_FREE, WF_CALL_CEASE};
   static const uint8_t GROUPS[] = {WF_CALL_GROUP, WF_CALL_GROUP, WF_CALL_BEACON, WF_CALL_GPULL, WF_CALL_GDONE};
+  static const uint8_t SERVICES[] = {WF_CALL_APSD, WF_CALL_TRIGGER, WF_CALL_TRIGGER, WF_CALL_EOSP};
   uint8_t kind;
   if (below(8)) return KINDS[below(sizeof KINDS)];
   if (below(4) == 0) return MODES[below(sizeof MODES)];
   if (below(3) == 0) return GROUPS[below(sizeof GROUPS)];
+  if (below(3) == 0) return SERVICES[below(sizeof SERVICES)];
   kind = (uint8_t)below(WF_CALL_CEASE);
   return (uint8_t)(kind < WF_CALL_REAP ? kind : kind + 1);
 }
@@ -160,6 +162,8 @@ static void call_ask(uint32_t caller, uint16_t station) {
   call.guard = (uint16_t)(below(9) ? 800 << below(3) : 400);
   call.streams = (uint8_t)below(10);
   call.speed = some_speed(call.form);
+  call.classes = (uint8_t)below(below(50) ? 16 : 17);
+  call.most = (uint8_t)below(6);
   code = wf_cell_ask(&cell, caller, &call, &reply);
   follow(call.exchange);
   write_answer(code);
@@ -284,6 +288,9 @@ static void write_entry(uint64_t place) {
     case WF_CALL_BEACON: fprintf(trace, "beacon\n"); break;
     case WF_CALL_GPULL: fprintf(trace, "gpull\n"); break;
     case WF_CALL_GDONE: fprintf(trace, "gdone\n"); break;
+    case WF_CALL_APSD: fprintf(trace, "apsd %u %u %u\n", s, (unsigned)c.classes, (unsigned)c.most); break;
+    case WF_CALL_TRIGGER: fprintf(trace, "trigger %u\n", s); break;
+    case WF_CALL_EOSP: fprintf(trace, "eosp %u\n", s); break;
     default: fail("an entry of no kind");
   }
 }

@@ -229,6 +229,19 @@ static void misuse_groups(void) {
   want(counts.accepted == 0 && counts.numbers == 1, 1, "the counts of group frames");
 }
 
+/* Service periods of stations that have none. */
+static void misuse_services(void) {
+  want(wf_path_apsd(&path, STATIONS, 16, 0, &reply), WF_BAD_STATION, "the classes of no station");
+  want(wf_path_apsd(&path, 3, 16, 0, &reply), WF_BAD_CLASSES, "classes that there are not");
+  want(wf_path_apsd(&path, 3, 15, 255, &reply), WF_NO_STATION, "the classes of a station that is not live");
+  want(wf_path_trigger(&path, STATIONS, &reply), WF_BAD_STATION, "a trigger of no station");
+  want(wf_path_trigger(&path, 3, &reply), WF_NO_STATION, "a trigger of a station that is not live");
+  want(wf_path_trigger(&path, 2, &reply), WF_AWAKE, "a trigger of a station that is awake");
+  want(wf_path_end_service(&path, STATIONS, &reply), WF_BAD_STATION, "the end of no station's service period");
+  want(wf_path_end_service(&path, 3, &reply), WF_NO_STATION, "the end of one of a station that is not live");
+  want(wf_path_end_service(&path, 2, &reply), WF_NOTHING, "the end of no service period");
+}
+
 static void misuse_joins(void) {
   want(wf_path_join(&path, 3, 0, 0, 3, 1, &reply), WF_BAD_WINDOW, "a window of 0");
   want(wf_path_join(&path, 3, 257, 0, 3, 1, &reply), WF_BAD_WINDOW, "a window of 257");
@@ -409,7 +422,7 @@ static void misuse_bursts(void) {
   misuse_burst(call, WF_OK, "a mark of no exchange");
   call.kind = WF_CALL_HOLD;
   misuse_burst(call, WF_OK, "a hold of a TID with an agreement");
-  call.kind = WF_CALL_GDONE + 1;
+  call.kind = WF_CALL_EOSP + 1;
   misuse_burst(call, WF_BAD_CALL, "a call of no kind");
   call.kind = WF_CALL_GROUP;
   misuse_burst(call, WF_BAD_CALL, "a group frame without octets");
@@ -723,10 +736,14 @@ static void misuse_sleepers(void) {
   want(wf_path_enqueue(&path, 1, &packet, &reply), WF_SLEEPING, "a third");
   want(wf_path_poll(&path, 1, &reply), WF_OK, "a poll");
   want(wf_path_poll(&path, 1, &reply), WF_POLLED, "a second poll");
+  want(wf_path_apsd(&path, 1, 0, 0, &reply), WF_ASLEEP, "the classes of a sleeper");
+  want(wf_path_trigger(&path, 1, &reply), WF_NOTHING, "a trigger without classes");
   want(wf_path_share(&path, 3, WF_BE, &share), WF_NO_STATION, "wf_path_share");
   unchanged(&share, &none, sizeof share, "wf_path_share");
   want(wf_path_live(&path, 3), 0, "a station that is not live");
   want(wf_path_live(&path, 65535), 0, "a station that there is not");
+  want(wf_path_in_service(&path, 3), 0, "a service period of a station that is not live");
+  want(wf_path_in_service(&path, 65535), 0, "a service period of a station that there is not");
 }
 
 /* Reads queues that do not exist, and the octets of no TID. */
@@ -798,6 +815,7 @@ static void misuse_path(void) {
   misuse_addresses();
   misuse_bsses();
   misuse_groups();
+  misuse_services();
   misuse_joins();
   misuse_rates();
   misuse_clock();
@@ -847,7 +865,7 @@ static void misuse_cell(void) {
   want(wf_cell_ask(&cell, 0, &call, &reply), WF_BAD_CALL, "a frame without its body");
   call.kind = WF_CALL_REAP;
   want(wf_cell_ask(&cell, 0, &call, &reply), WF_BAD_CALL, "a reap without its struct");
-  call.kind = WF_CALL_GDONE + 1;
+  call.kind = WF_CALL_EOSP + 1;
   want(wf_cell_ask(&cell, 0, &call, &reply), WF_BAD_CALL, "a call of no kind");
   call.kind = WF_CALL_GROUP;
   want(wf_cell_ask(&cell, 0, &call, &reply), WF_BAD_CALL, "a group frame without octets");

@@ -209,6 +209,18 @@ class Path {
     return wf_path_reap(&handle_, &reply, &taken, nullptr, 0);
   }
 
+  /* Service periods. */
+
+  [[nodiscard]] std::int32_t apsd(std::uint16_t station, std::uint8_t classes, std::uint8_t most, wf_reply &reply) {
+    return wf_path_apsd(&handle_, station, classes, most, &reply);
+  }
+  [[nodiscard]] std::int32_t trigger(std::uint16_t station, wf_reply &reply) {
+    return wf_path_trigger(&handle_, station, &reply);
+  }
+  [[nodiscard]] std::int32_t end_service(std::uint16_t station, wf_reply &reply) {
+    return wf_path_end_service(&handle_, station, &reply);
+  }
+
   /* Group frames and beacons. */
 
   [[nodiscard]] std::int32_t group(const std::uint8_t (&to)[6], std::uint16_t length, std::uint64_t tag, wf_reply &reply) {
@@ -287,6 +299,7 @@ class Path {
   std::uint64_t exchanges() const { return wf_path_exchanges(&handle_); }
   std::uint32_t open_count() const { return wf_path_open_count(&handle_); }
   bool live(std::uint16_t station) const { return wf_path_live(&handle_, station) != 0; }
+  bool in_service(std::uint16_t station) const { return wf_path_in_service(&handle_, station) != 0; }
   wf_tally tally() const {
     wf_tally told{};
     wf_path_tally(&handle_, &told);

@@ -29,6 +29,7 @@ struct exchange {
   uint8_t request;
   uint8_t batch;
   uint8_t plain;
+  uint8_t eosp;
   uint32_t air;
   uint16_t start; /* of its BlockAckReq */
   struct wf_frames frames;
@@ -366,11 +367,13 @@ static void look_at_tims(void) {
 /* Compares the header and the tag of a transmission with its octets. Both have the station's number. */
 static void look_at_parts(const struct exchange *x, uint16_t index) {
   uint8_t whole[WF_GREATEST_MPDU] = {0}, header[WF_HEADER] = {0};
+  int is_end = x->eosp && index + 1 == x->frames.count;
   size_t size = 0;
   uint64_t tag = 0;
   if (wf_path_mpdu(&path, x->number, index, whole, sizeof whole, &size)) fail("no octets");
   if (memcmp(whole + 4, addresses[x->station], 6)) fail("another address on the air");
   if (memcmp(whole + 10, bss_of(x->station), 6)) fail("another access point on the air");
+  if (whole[24] != (is_end ? x->tid + 16 : x->tid)) fail("another TID or EOSP bit on the air");
   if (wf_path_header(&path, x->number, index, header) || memcmp(header, whole, WF_HEADER)) fail("another header");
   if (wf_path_frame_tag(&path, x->number, index, &tag) || (tag & 0xffff) != (size - WF_HEADER)) fail("another tag on the air");
 }
@@ -437,10 +440,12 @@ static void call_pull(void) {
   x->request = reply.request;
   x->batch = reply.batch;
   x->plain = reply.plain;
+  x->eosp = reply.eosp;
   x->air = reply.air;
   x->start = reply.start;
   if (x->batch && x->request) fail("a batch that is a request");
   if (x->plain && (x->batch || x->request || x->frames.count != 1)) fail("a plain exchange of other than one frame");
+  if (x->eosp && (x->request || wf_path_in_service(&path, x->station))) fail("an exchange that ends no service period");
   if (!x->batch) note_frames(x);
   open_count++;
   look_at(x);
@@ -819,6 +824,27 @@ static void call_about_groups(void) {
   if (counts.accepted != counts.sent + counts.queued + counts.flying || counts.queued > BUFFERED) fail("group frames that do not add up");
 }
 
+/* Makes a call about the service periods of a station, and checks whether one is open. */
+static void call_about_services(uint16_t s) {
+  uint8_t classes = (uint8_t)below(below(50) ? 16 : 17), most = (uint8_t)below(6);
+  uint32_t which = below(4);
+  int was_open = wf_path_in_service(&path, s);
+  int32_t code;
+  if (which < 1) {
+    code = wf_path_apsd(&path, s, classes, most, &reply);
+    fprintf(trace, "apsd %u %u %u\n", (unsigned)s, (unsigned)classes, (unsigned)most);
+  } else if (which < 3) {
+    code = wf_path_trigger(&path, s, &reply);
+    fprintf(trace, "trigger %u\n", (unsigned)s);
+  } else {
+    code = wf_path_end_service(&path, s, &reply);
+    fprintf(trace, "eosp %u\n", (unsigned)s);
+  }
+  write_answer(code, NULL);
+  if (code == WF_OK && which > 0) was_open = which < 3;
+  if (wf_path_in_service(&path, s) != was_open) fail("a service period that is open, or is not");
+}
+
 static void call(void) {
   uint16_t s = (uint16_t)below(below(100) ? STATIONS : STATIONS + 1);
   uint32_t which = below(100);
@@ -826,6 +852,7 @@ static void call(void) {
   if (below(50) == 0) call_bss(), call_aid(), look_at_tims();
   if (below(25) == 0) call_mark();
   if (below(10) == 0) call_about_groups();
+  if (below(10) == 0) call_about_services(s);
   if (which < 39) call_enqueue(s);
   else if (which < 57) call_pull();
   else if (which < 75) call_done();

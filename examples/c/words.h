@@ -25,6 +25,7 @@ static void write_send(FILE *out, const struct wf_reply *reply, const struct wf_
     }
   }
   if (reply->more) fprintf(out, " more");
+  if (reply->eosp) fprintf(out, " eosp");
 }
 
 static void write_accepted(FILE *out, const struct wf_reply *reply) {
@@ -77,7 +78,8 @@ static int write_words(FILE *out, const struct wf_reply *reply, const struct wf_
       fprintf(out, " acked %u waiting %u failed %u", (unsigned)reply->acked, (unsigned)reply->waiting,
               (unsigned)reply->failed);
       break;
-    case WF_KIND_POLLED: fprintf(out, " %s", CLASSES[reply->class_]); break;
+    case WF_KIND_POLLED:
+    case WF_KIND_TRIGGERED: fprintf(out, " %s", CLASSES[reply->class_]); break;
     case WF_KIND_CHARGED: fprintf(out, " %lld", (long long)reply->deficit); break;
     case WF_KIND_REAPED: write_reaped(out, reply); break;
     case WF_KIND_REFUSED: write_refusal(out, reply); break;

@@ -21,7 +21,9 @@ from wfdev.repo import crates, generated, paths
 SCRIPT = Script("modules")
 # Modules that are public before another crate imports them.
 EARLY = {
+    ("wf_def_world", "Unserved"),
     ("wf_law_driver", "Shown"),
+    ("wf_law_runs", "Services"),
     ("wf_send_half", "Times"),
 }
 

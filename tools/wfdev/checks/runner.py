@@ -99,6 +99,7 @@ ALL = [
     Check("freed"),
     Check("faults"),
     Check("edits"),
+    Check("bugs"),
 ]
 
 

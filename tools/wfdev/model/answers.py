@@ -31,7 +31,7 @@ def refuse(name: str, is_so: bool, number: int | None = None) -> None:
 
 @dataclass(frozen=True)
 class Word:
-    """An answer of one word: joined, set, slept, woken, stopped, started, marked, ack, begun, freed."""
+    """An answer of one word: joined, set, slept, woken, stopped, started, marked, ack, begun, freed, ended."""
 
     word: str
 
@@ -76,16 +76,17 @@ class Send:
     batch: bool
     plain: bool
     more: bool
+    eosp: bool
 
     def __str__(self) -> str:
         head = f"send {self.exchange} sta {self.station} tid {self.tid} air {self.air}"
         if self.request is not None:
             return f"{head} bar {self.request % NUMBERS}"
-        more = " more" if self.more else ""
+        bits = (" more" if self.more else "") + (" eosp" if self.eosp else "")
         if self.batch:
-            return f"{head} batch{spaced(frame for frame, _ in self.data)}{more}"
+            return f"{head} batch{spaced(frame for frame, _ in self.data)}{bits}"
         pairs = spaced(f"{frame}:{number % NUMBERS}" for frame, number in self.data)
-        return f"{head} {'plain' if self.plain else 'data'}{pairs}{more}"
+        return f"{head} {'plain' if self.plain else 'data'}{pairs}{bits}"
 
 
 @dataclass(frozen=True)
@@ -143,6 +144,16 @@ class Polled:
 
 
 @dataclass(frozen=True)
+class Triggered:
+    """The answer to a trigger."""
+
+    access: Class
+
+    def __str__(self) -> str:
+        return f"triggered {self.access}"
+
+
+@dataclass(frozen=True)
 class Reaped:
     """The answer to a reap."""
 
@@ -177,4 +188,19 @@ class GroupSend:
         return f"gsend {self.frame} {self.number % NUMBERS} air {self.air}" + (" more" if self.more else "")
 
 
-Answer = Word | Number | Accepted | Send | Released | Ceased | Ba | Done | Polled | Reaped | Beacon | GroupSend | Refused
+Answer = (
+    Word
+    | Number
+    | Accepted
+    | Send
+    | Released
+    | Ceased
+    | Ba
+    | Done
+    | Polled
+    | Triggered
+    | Reaped
+    | Beacon
+    | GroupSend
+    | Refused
+)

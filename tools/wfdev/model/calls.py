@@ -111,5 +111,8 @@ FORMS = {
     "beacon": [Form()],
     "gpull": [Form()],
     "gdone": [Form()],
+    "apsd": [Form((STATION, OCTET, OCTET))],
+    "trigger": [Form((STATION,))],
+    "eosp": [Form((STATION,))],
 }
 LINES = {**FORMS, "end": [Form()]}

@@ -1,9 +1,10 @@
-"""The thirty-one calls: MACHINE.md, from the table of calls to Group frames.
+"""The thirty-four calls: MACHINE.md, from the table of calls to Group frames.
 
 The method of a call begins with its refusals in the order of the table. A refused call raises `Refused`. It
 changes nothing, except if it is `idle`.
 """
 from collections import deque
+from collections.abc import Collection
 from dataclasses import dataclass, field
 
 from wfdev.model.answers import (
@@ -20,6 +21,7 @@ from wfdev.model.answers import (
     Refused,
     Released,
     Send,
+    Triggered,
     Word,
     refuse,
 )
@@ -48,6 +50,7 @@ from wfdev.model.stations import Exchange, Mode, Station
 MOST_TICK = 10_000_000
 PLAIN_WINDOW, MOST_WINDOW, MOST_EXPONENT, MOST_WEIGHT, MOST_AIR = 1, 256, 3, 16, 65_535
 AMPDUS = range(4096, 6_500_632)
+MOST_CLASSES = 15
 POLL_ORDER = (Class.VO, Class.VI, Class.BE, Class.BK)
 # The methods whose names are not the words of their calls.
 METHODS = {"group": "accept_group"}
@@ -330,7 +333,9 @@ class Machine:
     def is_ready(self, station: int, access: Class) -> bool:
         """Returns whether a station is ready in a class."""
         held = self.stations.get(station)
-        if held is None or held.stopped or not (not held.asleep or held.credit is access):
+        if held is None or held.stopped:
+            return False
+        if held.asleep and held.credit is not access and not held.is_served(access):
             return False
         if 0 < self.settings.aql <= self.in_flight(station, access):
             return False
@@ -410,7 +415,7 @@ class Machine:
             exchange = Exchange(held.number, tid, control.request_charge, [], session.start)
         else:
             octets = octets_taken(held.rate, held.exponent, held.ampdu)
-            agg = 1 if held.asleep or is_single(held.rate) else most
+            agg = self.most_frames(held, CLASS_OF[tid], most)
             numbers = self.aggregate(held, tid, Bounds(agg, octets, held.rate, cap, overhead))
             lengths = [session.length(one) for one in numbers]
             if held.is_plain(tid) or is_single(held.rate):
@@ -422,13 +427,47 @@ class Machine:
         if exchange.batch:
             self.batches[number] = exchange.numbers
         self.exchanges[number] = exchange
-        held.credit = None
         pairs = tuple((session.slots[one].frame.id, one) for one in exchange.numbers)
-        more = held.asleep and exchange.request is None and self.holds_more(held)
+        more, eosp = self.told(held, CLASS_OF[tid], exchange)
+        self.spend(held, CLASS_OF[tid], len(exchange.numbers), eosp)
         self.list_ready(held.number)
         return Send(
-            number, held.number, tid, exchange.charge, pairs, exchange.request, exchange.batch, exchange.plain, more
+            number,
+            held.number,
+            tid,
+            exchange.charge,
+            pairs,
+            exchange.request,
+            exchange.batch,
+            exchange.plain,
+            more,
+            eosp,
         )
+
+    def most_frames(self, held: Station, access: Class, most: int) -> int:
+        """Returns the most frames of an exchange of a class to a station: one by a poll, and what is left by a trigger."""
+        is_served = held.is_served(access)
+        if is_single(held.rate) or (held.asleep and not is_served):
+            return 1
+        return min(most, held.service) if is_served and held.service else most
+
+    def told(self, held: Station, access: Class, exchange: Exchange) -> tuple[bool, bool]:
+        """Returns the More Data bit and the EOSP bit of an exchange."""
+        if not held.asleep or exchange.request is not None:
+            return False, False
+        is_served = held.is_served(access)
+        more = self.holds_more(held, held.delivery if is_served else held.polled)
+        return more, is_served and (held.is_used_up(len(exchange.numbers)) or not more)
+
+    def spend(self, held: Station, access: Class, frames: int, eosp: bool) -> None:
+        """An exchange of a class spends the credit of a poll, or frames of the service period."""
+        is_served = held.is_served(access)
+        if is_served and eosp:
+            held.service = None
+        elif is_served and held.service:
+            held.service -= frames
+        if not is_served or held.credit is access:
+            held.credit = None
 
     def aggregate(self, held: Station, tid: int, bounds: Bounds) -> list[int]:
         """Makes an aggregate of waiting numbers and fresh frames, and returns its numbers."""
@@ -567,7 +606,7 @@ class Machine:
         self.numbered(station)
         held = self.live(station)
         refuse("awake", not held.asleep)
-        held.asleep, held.credit = False, None
+        held.asleep, held.credit, held.service = False, None, None
         self.list_ready(station)
         return Word("woken")
 
@@ -576,22 +615,55 @@ class Machine:
         self.numbered(station)
         held = self.live(station)
         refuse("awake", not held.asleep)
-        can = [one for one in POLL_ORDER if self.can_send_in(station, one)]
-        refuse("polled", held.credit is not None and (self.settings.credits == 0 or held.credit in can))
+        is_spent = self.settings.credits == 1 and held.credit is not None and not self.can_send_in(station, held.credit)
+        refuse("polled", held.credit is not None and not is_spent)
+        can = [one for one in POLL_ORDER if one in held.polled and self.can_send_in(station, one)]
         refuse("nothing", not can)
         held.credit = can[0]
         self.list_ready(station)
         return Polled(can[0])
 
-    def holds_more(self, held: Station) -> bool:
-        """Returns whether a station has a waiting number or a queued frame on some TID."""
-        of_queues = (self.queues.frames((held.number, tid)) for tid in range(TIDS))
-        return any(session.waiting() for session in held.sessions) or any(of_queues)
+    def apsd(self, station: int, classes: int, most: int) -> Answer:
+        """A station has these delivery-enabled classes, and this most of frames of a service period, from now on."""
+        self.numbered(station)
+        refuse("bad-classes", classes > MOST_CLASSES)
+        held = self.live(station)
+        refuse("asleep", held.asleep)
+        held.delivery = frozenset(one for place, one in enumerate(Class.__members__.values()) if classes >> place & 1)
+        held.most = most
+        self.list_ready(station)
+        return Word("set")
+
+    def trigger(self, station: int) -> Answer:
+        """A sleeping station asks for a service period."""
+        self.numbered(station)
+        held = self.live(station)
+        refuse("awake", not held.asleep)
+        refuse("polled", held.service is not None)
+        can = [one for one in POLL_ORDER if one in held.delivery and self.can_send_in(station, one)]
+        refuse("nothing", not can)
+        held.service = held.most
+        self.list_ready(station)
+        return Triggered(can[0])
+
+    def eosp(self, station: int) -> Answer:
+        """The device ended a service period by a frame without data."""
+        self.numbered(station)
+        held = self.live(station)
+        refuse("nothing", held.service is None)
+        held.service = None
+        self.list_ready(station)
+        return Word("ended")
+
+    def holds_more(self, held: Station, classes: Collection[Class]) -> bool:
+        """Returns whether a station has a waiting number or a queued frame on some TID of these classes."""
+        tids = [tid for one in classes for tid in CLASS_TIDS[one]]
+        return any(held.sessions[tid].waiting() or self.queues.frames((held.number, tid)) for tid in tids)
 
     def announced(self) -> list[int]:
         """Returns the AIDs whose bits the TIM has set."""
         asleep = [held for held in self.stations.values() if held.asleep]
-        return [held.number + 1 for held in asleep if self.holds_more(held)]
+        return [held.number + 1 for held in asleep if self.holds_more(held, held.polled)]
 
     def reap(self) -> Answer:
         """The caller takes the next finished frame."""

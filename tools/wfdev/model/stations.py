@@ -30,6 +30,9 @@ def first_turns() -> dict[Class, int]:
 class Station:
     """A live station. `turns` has the TID whose turn it is in each class; `credit` is the class of a poll.
 
+    `delivery` has its delivery-enabled classes, and `most` the most frames of a service period, 0 if there is no limit.
+    `service` is how many frames are left of the service period that is open, and 0 if there is no limit.
+
     All of its TIDs begin with the mode `mode`; `modes` has their modes now.
     `ampdu` is the most octets of its aggregates of VHT and HE, if that was stated. The device of one that is
     `offloaded` numbers, aggregates and repeats its frames.
@@ -47,6 +50,9 @@ class Station:
     stopped: bool = False
     asleep: bool = False
     credit: Class | None = None
+    delivery: frozenset[Class] = frozenset()
+    most: int = 0
+    service: int | None = None
     turns: dict[Class, int] = field(default_factory=first_turns)
     charged: dict[Class, int] = field(default_factory=zeros)
     received: dict[Class, int] = field(default_factory=zeros)
@@ -58,6 +64,19 @@ class Station:
         self.modes = [self.mode] * TIDS
         self.sessions = [Session(self.window, self.first) for _ in range(TIDS)]
         self.receivers = [Receiver(self.window, self.first) for _ in range(TIDS)]
+
+    @property
+    def polled(self) -> frozenset[Class]:
+        """The classes that a poll, and the TIM, look at: those that are not delivery-enabled, or all if all are."""
+        return frozenset(Class.__members__.values()) - self.delivery or self.delivery
+
+    def is_served(self, access: Class) -> bool:
+        """Returns whether an exchange of a class is part of the service period that is open."""
+        return self.asleep and self.service is not None and access in self.delivery
+
+    def is_used_up(self, frames: int) -> bool:
+        """Returns whether nothing is left of the service period after this many frames."""
+        return bool(self.service) and frames >= (self.service or 0)
 
     def is_plain(self, tid: int) -> bool:
         """Returns whether a TID has no agreement and no device that makes one."""

@@ -68,6 +68,15 @@ class Listing(unittest.TestCase):
         self.assertEqual((group.octets[:4], group.octets[-2:]), (b"\x08\2\0\0", b"\0\1"))
         self.assertEqual(readers.numbers_of(group.octets), [None, 2, None, None, None])
 
+    def test_the_last_frame_of_a_service_period(self) -> None:
+        trace = "cell\njoin 0 64 0 3\napsd 0 8 2\nsleep 0\n" + "enq 0 6 0 9\n" * 3 + "trigger 0\npull vo\nend\n"
+        answers = "joined\nset\nslept\n" + "".join(f"accepted {n}\n" for n in range(3)) + "triggered vo\n"
+        answers += "send 0 sta 0 tid 6 air 156 data 0:0 1:1 more eosp\n"
+        first, last = air.on_air(trace, answers)
+        self.assertEqual((first.octets[24:26], last.octets[24:26]), (b"\x06\0", b"\x16\0"))
+        self.assertEqual((first.octets[1], last.octets[1]), (0x22, 0x22))
+        self.assertEqual(model.name_of(last.octets), "data tid 6 seq 1")
+
     def test_a_beacon_without_a_whole_tim_is_another_frame(self) -> None:
         whole = air.beacon(0, 0, model.Beacon(0, 1, 0, []))
         for octets in (whole[:-1], whole[:48], whole[:30], bytes([0x80])):

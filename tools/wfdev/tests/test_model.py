@@ -4,15 +4,16 @@ import itertools
 import random
 import unittest
 from collections.abc import Callable
+from dataclasses import dataclass
 
 from wfdev.checks import worked
 from wfdev.checks.durations import legacy
 from wfdev.checks.fuzz import scripts, subjects, traces
 from wfdev.checks.fuzz.subjects import Ended
-from wfdev.model.answers import Answer, Beacon, GroupSend, Number, Refused
+from wfdev.model.answers import Answer, Beacon, GroupSend, Number, Polled, Send, Triggered, Word
 from wfdev.model.calls import LINES
-from wfdev.model.frames import Frame
-from wfdev.model.grammar import read
+from wfdev.model.frames import CLASS_OF, Class, Frame
+from wfdev.model.grammar import Call, read
 from wfdev.model.group import Group
 from wfdev.model.machine import Machine
 from wfdev.model.rates import LOWEST, Bounds, Format, MimoRate, Ofdm, octets_alone
@@ -30,7 +31,7 @@ COMMANDS: dict[tuple[str, ...], Callable[[bytes], Ended]] = {
     ("session",): scripts.session,
     ("uplink",): scripts.uplink,
 }
-LEAST_ROWS = 200
+LEAST_ROWS, LEAST_SENDS = 200, 50
 GROUP_CALLS = ("group 9", "beacon", "gpull", "gdone")
 MOST_HT_MCS = 15
 
@@ -171,6 +172,100 @@ class Grouped(unittest.TestCase):
         player = Player()
         player.play(head.encode())
         return [player.play(line.encode()) for line in lines]
+
+
+@dataclass
+class Sleeper:
+    """What the calls about one station and their answers say of it: `sent` counts the frames of its service period."""
+
+    classes: frozenset[Class] = frozenset()
+    most: int = 0
+    asleep: bool = False
+    credit: Class | None = None
+    sent: int | None = None
+
+    @property
+    def polled(self) -> frozenset[Class]:
+        """The classes that its polls may name."""
+        return frozenset(Class.__members__.values()) - self.classes or self.classes
+
+
+class Served(unittest.TestCase):
+    """The laws of service periods in random histories, which are told by the calls and answers alone."""
+
+    def test_the_laws_hold_in_random_histories(self) -> None:
+        for seed in range(60):
+            self.keep_laws(traces.made(random.Random(seed), 250).decode().splitlines())
+        self.assertGreater(self.sends, LEAST_SENDS)
+
+    def setUp(self) -> None:
+        self.sends = 0
+        self.known: dict[int, Sleeper] = {}
+
+    def keep_laws(self, lines: list[str]) -> None:
+        """Plays a trace, and asserts the laws after each call."""
+        self.known, player = {}, Player()
+        player.play(lines[0].encode())
+        machine = player.machine
+        assert machine is not None
+        for line in lines[1:-1]:
+            call = read(line.split(), LINES, has_callers=True)
+            before = self.parts(machine)
+            answer = machine.step(call)
+            if call.name in ("apsd", "trigger", "eosp"):
+                self.assertEqual(before, self.parts(machine))
+            if isinstance(answer, Send):
+                self.keep_send(answer)
+            else:
+                self.hear(call, answer)
+
+    def parts(self, machine: Machine) -> list[object]:
+        """Returns what calls about service periods leave as it is."""
+        stations = [(held.sessions, held.receivers, held.charged, held.turns) for held in machine.stations.values()]
+        return [machine.now, repr(stations), repr(machine.queues), repr([one.deficits for one in machine.rotations.values()])]
+
+    def keep_send(self, sent: Send) -> None:
+        """Asserts that an exchange to a sleeping station is due to a poll or to a service period."""
+        one, access = self.known[sent.station], CLASS_OF[sent.tid]
+        is_served = one.sent is not None and access in one.classes
+        self.assertTrue(not one.asleep or is_served or one.credit is access)
+        self.assertTrue(is_served or not sent.eosp)
+        if not is_served:
+            self.assertTrue(not one.asleep or len(sent.data) <= 1)
+            one.credit = None
+            return
+        assert one.sent is not None
+        self.sends += 1
+        one.sent += len(sent.data)
+        self.assertTrue(one.most == 0 or one.sent <= one.most)
+        is_last = sent.request is None and (not sent.more or one.sent == one.most != 0)
+        self.assertEqual(sent.eosp, is_last)
+        one.credit = None if one.credit is access else one.credit
+        one.sent = None if sent.eosp else one.sent
+
+    def hear(self, call: Call, answer: Answer) -> None:
+        """Takes in the answer to another call."""
+        if answer == Word("joined"):
+            self.known[int(str(call.values[0]))] = Sleeper()
+        one = self.known.get(int(str(call.values[0]))) if call.values and str(call.values[0]).isdigit() else None
+        if one is None:
+            return
+        if isinstance(answer, Polled):
+            self.assertIn(answer.access, one.polled)
+            one.credit = answer.access
+        elif isinstance(answer, Triggered):
+            self.assertIsNone(one.sent)
+            self.assertIn(answer.access, one.classes)
+            one.sent = 0
+        elif answer == Word("ended"):
+            self.assertIsNotNone(one.sent)
+            one.sent = None
+        elif answer == Word("set") and call.name == "apsd":
+            self.assertFalse(one.asleep)
+            number, one.most = (int(str(value)) for value in call.values[1:])
+            one.classes = frozenset(access for place, access in enumerate(Class.__members__.values()) if number >> place & 1)
+        elif answer in (Word("slept"), Word("woken")):
+            one.asleep, one.credit, one.sent = answer == Word("slept"), None, None
 
 
 class Settled(unittest.TestCase):

@@ -122,6 +122,8 @@ def replies_of(kind: str) -> set[str]:
     answers = "joined left set now accepted send released done slept woken polled charged reaped".split()
     names += "plain hold begin free cease group beacon gpull gdone".split()
     answers += "marked marked flushed joined set joined held begun freed ceased queued beacon gsend gdone".split()
+    names += "apsd trigger eosp".split()
+    answers += "set triggered ended".split()
     known = dict(zip(names, answers, strict=True))
     return {"ba", "ack"} if kind == "answer" else {known[kind]}
 
@@ -148,6 +150,7 @@ class Fields(unittest.TestCase):
         texts += ["send 0 sta 1 tid 2 air 3 plain 4:5 more", "ack", "held 4095", "begun", "freed", "ceased 2", "ceased 2 7 9"]
         texts += ["reaped 3 ended", "refused held", "refused waits 1"]
         texts += ["refused open 2", "refused debt -7", "refused ahead 3952", "refused idle"]
+        texts += ["send 0 sta 1 tid 2 air 3 data 4:5 more eosp", "triggered vo", "ended", "refused bad-classes"]
         texts += ["queued 0", "beacon 2 0", "beacon 0 1", "gsend 0 4095 air 464 more", "gdone 0", "refused buffered 9"]
         nested = {"frames": "wf_frames", "passed_up": "wf_passed_up", "block": "wf_block"}
         for text in texts:
@@ -162,6 +165,8 @@ class Fields(unittest.TestCase):
         found = replies.read("send 9 sta 1 tid 2 air 3 data 4:5 6:7 more")
         self.assertEqual(found.frames, [(4, 5), (6, 7)])
         self.assertTrue(found.fields["more"])
+        last = replies.read("send 9 sta 1 tid 2 air 3 data 4:5 eosp")
+        self.assertEqual((last.frames, last.fields["more"], last.fields["eosp"]), ([(4, 5)], False, True))
         batch = replies.read("send 9 sta 1 tid 2 air 3 batch 4 6 more")
         self.assertEqual((batch.frames, batch.fields["batch"], batch.fields["more"]), ([(4, 0), (6, 0)], True, True))
         plain = replies.read("send 9 sta 1 tid 2 air 3 plain 4:5")
@@ -274,7 +279,7 @@ class Explained(unittest.TestCase):
         told = " ".join(explained("leaving-station").split())
         self.assertIn("Call: Station 3 leaves. Refused: The station has 1 open exchange. Nothing has changed.", told)
         told = " ".join(explained("sleeping-station").split())
-        self.assertIn("Station 0 holds 2 frames of the class, but sleeps and has no credit for it.", told)
+        self.assertIn("Station 0 holds 2 frames of the class, but sleeps, and no poll or trigger is for it.", told)
 
     def test_numbers_and_settings_of_a_rule_are_filled_in(self) -> None:
         told = rules.rule("ahead", 1976, {"aql_total": 100})

@@ -37,6 +37,9 @@ FORMS: dict[str, tuple[str, ...]] = {
     "beacon": (),
     "gpull": (),
     "gdone": (),
+    "apsd": ("station", "classes", "most"),
+    "trigger": ("station",),
+    "eosp": ("station",),
 }
 RATES: dict[str, tuple[str, ...]] = {
     "ht": ("station", "mcs", "mhz", "short_guard"),

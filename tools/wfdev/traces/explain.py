@@ -9,7 +9,7 @@ from collections.abc import Callable, Iterable
 
 from . import calls, replies, rules
 from .calls import Call
-from .ledger import CLASSES, Exchange, Ledger, Station
+from .ledger import CLASSES, NUMBERED, Exchange, Ledger, Station
 from .replies import Reply
 from .runs import Answered, Event, Faulted, Headed, Summed
 
@@ -120,6 +120,14 @@ def rate_of(call: Call) -> str:
     )
 
 
+def delivery_of(call: Call) -> str:
+    """Returns the delivery-enabled classes of a call, and the most frames of a service period."""
+    classes = [one for place, one in enumerate(NUMBERED) if call.number("classes") >> place & 1]
+    named = f"the delivery-enabled classes {listed(classes)}" if classes else "no delivery-enabled class"
+    most = f"at most {count(call.number('most'), 'frame')}" if call.number("most") else "any number of frames"
+    return f"{named}, and service periods of {most}"
+
+
 def asked_pull(call: Call) -> str:
     """Returns what a pull asks."""
     frames = [f"at most {count(call.number('frames'), 'frame')}"] if "frames" in call.fields else []
@@ -191,6 +199,9 @@ ASKED: dict[str, Callable[[Call], str]] = {
     "beacon": lambda _: "A beacon goes out.",
     "gpull": lambda _: "The driver asks for the next group frame.",
     "gdone": lambda _: "The transmission of the group frame on the air has ended.",
+    "apsd": lambda call: f"{station_of(call).capitalize()} is to have {delivery_of(call)}.",
+    "trigger": lambda call: f"{station_of(call).capitalize()} sends a trigger frame: it asks for a service period.",
+    "eosp": lambda call: f"The device ended the service period of {station_of(call)} by a frame without data.",
 }
 
 
@@ -200,6 +211,15 @@ NOTHING = {
     "poll": "No TID of the station can send.",
     "reap": "No frame is finished.",
     "gdone": "No group frame is on the air.",
+    "trigger": "No TID of a delivery-enabled class can send.",
+    "eosp": "No service period of the station is open.",
+}
+# Refusals that mean something else for another kind of call.
+OF_KIND = {
+    ("polled", "poll"): "The station has a credit that is not spent yet.",
+    ("polled", "trigger"): "Its service period is open already.",
+    ("asleep", "sleep"): "The station is asleep already.",
+    ("asleep", "apsd"): "The station is asleep.",
 }
 NO_GROUP_FRAME = "No group frame is queued, or a station sleeps and no DTIM beacon since the first one came lets it go."
 AFTER_IDLE = "This is the only refusal after which something may have changed."
@@ -219,6 +239,7 @@ def refused(call: Call, reply: Reply, book: Ledger) -> str:
     rule = rules.rule(reply.refusal, number, book.settings)
     if reply.refusal == "nothing":
         rule = NOTHING.get(call.kind, rule)
+    rule = OF_KIND.get((reply.refusal, call.kind), rule)
     if reply.refusal == "open" and call.kind in ("begin", "cease"):
         rule = f"The TID has {count(reply.number('count'), 'open exchange')}."
     return f"Refused: {rule} Nothing has changed."
@@ -241,8 +262,8 @@ def why_not_ready(station: Station, class_: str, book: Ledger) -> str:
     text = f"Station {station.number} holds {count(held, 'frame')} of the class"
     if station.is_stopped:
         return f"{text}, but is stopped."
-    if station.is_asleep and station.credit != class_:
-        return f"{text}, but sleeps and has no credit for it."
+    if not station.is_reached(class_):
+        return f"{text}, but sleeps, and no poll or trigger is for it."
     return f"{text}, {on_air} of them in open exchanges.{held_tids(station, class_)}"
 
 
@@ -295,7 +316,8 @@ def contents(exchange: Exchange, book: Ledger) -> str:
     frames = [book.frames[id_] for id_, _ in exchange.frames]
     again = [f"{frame.id} (transmission {frame.sent})" for frame in frames if frame.sent > 1]
     text += f"; sent again: frame {listed(again)}." if again else ", not sent before."
-    return text + (" The station has more to be sent." if exchange.more else "")
+    text += " The station has more to be sent." if exchange.more else ""
+    return text + (" It is the last of the service period." if exchange.eosp else "")
 
 
 def why_picked(station: Station, exchange: Exchange, book: Ledger) -> str:
@@ -303,6 +325,7 @@ def why_picked(station: Station, exchange: Exchange, book: Ledger) -> str:
     class_ = exchange.class_
     quantum, used, quanta = book.quantum(station), station.used.get(class_, 0), station.quanta[class_]
     credit = "It sleeps, so this spends its credit. " if station.is_asleep else ""
+    credit = "It sleeps, and this is part of its service period. " if exchange.is_served else credit
     if book.settings["pending"]:
         return (
             f"{credit}The scheduler picks the first ready station whose deficit is greater than its airtime in "
@@ -327,8 +350,8 @@ def other(station: Station, class_: str, book: Ledger) -> str:
         return ""
     if station.is_stopped:
         return f"Station {station.number} is stopped, so it was not ready."
-    if station.is_asleep and station.credit != class_:
-        return f"Station {station.number} sleeps and has no credit, so it was not ready."
+    if not station.is_reached(class_):
+        return f"Station {station.number} sleeps, and no poll or trigger is for the class, so it was not ready."
     tids = held_tids(station, class_)
     if book.settings["pending"]:
         return (
@@ -494,7 +517,7 @@ ANSWERED: dict[str, Callable[[Call, Reply, Ledger, Exchange | None], str]] = {
     "arrive": said_of_released,
     "answer": said_of_ba,
     "done": said_of_done,
-    "sleep": lambda *_: "It sleeps: a frame goes to it only after a poll.",
+    "sleep": lambda *_: "It sleeps: a frame goes to it only after a poll or a trigger.",
     "wake": lambda *_: "It is awake.",
     "poll": lambda _, reply, __, ___: f"It gets a credit for one frame of class {reply.fields['class_']}.",
     "rx": said_of_charged,
@@ -513,6 +536,11 @@ ANSWERED: dict[str, Callable[[Call, Reply, Ledger, Exchange | None], str]] = {
     "beacon": said_of_beacon,
     "gpull": said_of_gsend,
     "gdone": lambda _, reply, __, ___: f"Group frame {reply.number('id')} was sent.",
+    "apsd": lambda *_: "They are set.",
+    "trigger": lambda _, reply, __, ___: (
+        f"A service period is open; the most urgent class that can send in it is {reply.fields['class_']}."
+    ),
+    "eosp": lambda *_: "It is over: the station gets a frame only after a poll or another trigger.",
 }
 
 

@@ -26,6 +26,7 @@ STANDARD = {
     "buffered": 0,
 }
 CLASSES = ("be", "bk", "bk", "be", "vi", "vi", "vo", "vo")
+NUMBERED = ("bk", "be", "vi", "vo")
 NUMBERS = 4096
 
 
@@ -57,6 +58,7 @@ class Exchange:
     frames: list[tuple[int, int]]
     start: int | None
     more: bool
+    eosp: bool
     again: int = 0
     arrived: set[int] = dataclasses.field(default_factory=set)
     block: tuple[int, int] | None = None
@@ -65,6 +67,7 @@ class Exchange:
     heard: bool | None = None
     is_batch: bool = False
     is_plain: bool = False
+    is_served: bool = False
     has_ack: bool = False
 
     @property
@@ -94,7 +97,8 @@ class Exchange:
 class Station:
     """A live station: `used` is the airtime of each class that left its deficit since its join; `quanta`
     counts those of the rotation. After a change of its weight (`is_weighed`) its deficit is not known. `held`
-    has the TIDs that are held."""
+    has the TIDs that are held, `delivery` the delivery-enabled classes, and `is_served` says that a service
+    period is open."""
 
     number: int
     weight: int
@@ -102,9 +106,15 @@ class Station:
     is_asleep: bool = False
     is_stopped: bool = False
     credit: str = ""
+    delivery: frozenset[str] = frozenset()
+    is_served: bool = False
     used: dict[str, int] = dataclasses.field(default_factory=dict)
     quanta: dict[str, int] = dataclasses.field(default_factory=dict)
     held: set[int] = dataclasses.field(default_factory=set)
+
+    def is_reached(self, class_: str) -> bool:
+        """Returns whether it is awake, or has a credit for a class or a service period in which it is served."""
+        return not self.is_asleep or self.credit == class_ or (self.is_served and class_ in self.delivery)
 
 
 class Ledger:
@@ -225,7 +235,7 @@ class Ledger:
         numbers = (
             reply.number("exchange"), reply.number("station"), reply.number("tid"), reply.number("air")
         )
-        exchange = Exchange(*numbers, self.now, reply.frames, start, bool(reply.fields["more"]))
+        exchange = Exchange(*numbers, self.now, reply.frames, start, bool(reply.fields["more"]), bool(reply.fields["eosp"]))
         exchange.is_batch, exchange.is_plain = "batch" in reply.fields, "plain" in reply.fields
         for id_, _number in exchange.frames:
             frame = self.frames[id_]
@@ -234,7 +244,9 @@ class Ledger:
         self.open[exchange.number] = exchange
         station = self.stations[exchange.station]
         station.quanta[exchange.class_] = self.quanta_when_picked(station, exchange.class_)
-        if station.is_asleep:
+        exchange.is_served = station.is_served and exchange.class_ in station.delivery
+        station.is_served = station.is_served and not exchange.eosp
+        if not exchange.is_served or station.credit == exchange.class_:
             station.credit = ""
         return exchange
 
@@ -293,7 +305,17 @@ class Ledger:
 
     def _wake(self, call: Call, _: Reply) -> None:
         station = self.stations[call.number("station")]
-        station.is_asleep, station.credit = False, ""
+        station.is_asleep, station.credit, station.is_served = False, "", False
+
+    def _apsd(self, call: Call, _: Reply) -> None:
+        classes = frozenset(one for place, one in enumerate(NUMBERED) if call.number("classes") >> place & 1)
+        self.stations[call.number("station")].delivery = classes
+
+    def _trigger(self, call: Call, _: Reply) -> None:
+        self.stations[call.number("station")].is_served = True
+
+    def _eosp(self, call: Call, _: Reply) -> None:
+        self.stations[call.number("station")].is_served = False
 
     def _poll(self, call: Call, reply: Reply) -> None:
         self.stations[call.number("station")].credit = str(reply.fields["class_"])

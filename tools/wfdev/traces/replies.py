@@ -52,13 +52,13 @@ def _send(words: list[str]) -> Fields:
         "exchange": exchange, "station": station, "tid": tid, "air": air, "request": words[7] == "bar"
     }
     if fields["request"]:
-        return {**fields, "start": int(words[8]), "more": False}
-    more = words[-1] == "more"
-    sent = words[8:-1] if more else words[8:]
+        return {**fields, "start": int(words[8]), "more": False, "eosp": False}
+    more, eosp = "more" in words[8:], words[-1] == "eosp"
+    sent = [word for word in words[8:] if word not in ("more", "eosp")]
     pairs = [[word, "0"] if words[7] == "batch" else word.split(":") for word in sent]
     ids, numbers = [int(one) for one, _ in pairs], [int(other) for _, other in pairs]
     how = {words[7]: True} if words[7] in ("batch", "plain") else {}
-    return {**fields, **how, "more": more, "frames": {"ids": ids, "numbers": numbers, "count": len(ids)}}
+    return {**fields, **how, "more": more, "eosp": eosp, "frames": {"ids": ids, "numbers": numbers, "count": len(ids)}}
 
 
 def _released(words: list[str]) -> Fields:
@@ -94,6 +94,7 @@ READERS: dict[str, Callable[[list[str]], Fields]] = {
     "ba": _ba,
     "done": lambda words: {"acked": int(words[1]), "waiting": int(words[3]), "failed": int(words[5])},
     "polled": lambda words: {"class_": words[0]},
+    "triggered": lambda words: {"class_": words[0]},
     "charged": lambda words: {"deficit": int(words[0])},
     "reaped": lambda words: {"id": int(words[0]), "fate": words[1]},
     "queued": lambda words: {"id": int(words[0])},

@@ -6,7 +6,7 @@ text2pcap, editcap or scapy is installed, captures that these wrote. No capture 
 
 Written are: captures of the example traces and of 1,000 generated ones of a few calls each, octet by octet by the answers that
 `wf replay` gives. If tshark or scapy is installed, it reads those of the example traces, and those of the generated ones in one
-file: times, kinds, Retry and More Data bits, TIDs, sequence numbers, starts, fragment numbers and bitmaps have to be equal to
+file: times, kinds, Retry, More Data and EOSP bits, TIDs, sequence numbers, starts, fragment numbers and bitmaps have to equal
 the model's, and of beacons the DTIM counts, periods, bits and AIDs. tshark finds no malformed field and reports no error. There
 are some 4,000 runs.
 

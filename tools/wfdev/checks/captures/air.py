@@ -12,6 +12,7 @@ BASE, SOURCE, EVERYONE = (bytes.fromhex(one) for one in ("020000000000", "020000
 BEACON_FIELDS = bytes.fromhex("6400" "0100" "0000" "01088c129824b048606c")
 MICROSECONDS = 10**6
 DURATION, PLAIN_DURATION = 48, 44  # of the SIFS, and a BlockAck or an Ack
+BITS = ("more", "eosp")  # the last words of an answer `send`
 
 
 def station(number: int) -> bytes:
@@ -29,19 +30,20 @@ class Frame:
 
 @dataclass(frozen=True)
 class Sent:
-    """How a frame is sent: its TID and number, the Retry and More Data bits, and the Duration."""
+    """How a frame is sent: its TID and number, the Retry, More Data and EOSP bits, and the Duration."""
 
     tid: int
     seq: int
     is_retry: bool
     has_more: bool
+    ends_service: bool
     duration: int
 
 
 def data(number: int, sent: Sent, frame: Frame) -> bytes:
     """Returns the octets of a data frame to a station."""
     head = bytes([DATA_KIND, 2 | 8 * sent.is_retry | 32 * sent.has_more, sent.duration, 0]) + station(number) + BASE + SOURCE
-    head += (16 * sent.seq).to_bytes(2, "little") + bytes([sent.tid, 0])
+    head += (16 * sent.seq).to_bytes(2, "little") + bytes([sent.tid | 16 * sent.ends_service, 0])
     return head + bytes((frame.flow + at) % 256 for at in range(frame.length))
 
 
@@ -128,16 +130,16 @@ class Air:
 
     def send(self, answer: Sequence[str]) -> None:
         """Adds the packets of an answer `send`."""
-        number, tid, has_more = int(answer[3]), int(answer[5]), answer[-1] == "more"
+        number, tid, bits = int(answer[3]), int(answer[5]), [word for word in answer[9:] if word in BITS]
         opened = self.opened[answer[1]] = Exchange(number, tid)
         if answer[8] == "bar":
             self.put(request(number, tid, int(answer[9])))
-        sent = answer[9 : len(answer) - has_more] if answer[8] != "bar" else []
+        sent = answer[9 : len(answer) - len(bits)] if answer[8] != "bar" else []
         numbers = self.batches[int(answer[1])] if answer[8] == "batch" else [int(one.split(":")[1]) for one in sent]
-        for word, seq in zip(sent, numbers, strict=True):
+        for left, word, seq in zip(reversed(range(len(sent))), sent, numbers, strict=True):
             frame = word.split(":")[0]
             duration = PLAIN_DURATION if answer[8] == "plain" else DURATION
-            how = Sent(tid, seq % 4096, frame in self.tried, has_more, duration)
+            how = Sent(tid, seq % 4096, frame in self.tried, "more" in bits, "eosp" in bits and left == 0, duration)
             self.put(data(number, how, self.frames[frame]))
             opened.frames.append(frame)
 
@@ -194,6 +196,16 @@ def group_call(draw: random.Random) -> str:
     return draw.choice((f"group {draw.randint(1, 300)}", f"group {draw.randint(1, 300)}", "beacon", "gpull", "gpull", "gdone"))
 
 
+def service(draw: random.Random) -> Iterator[str]:
+    """Yields calls about the service periods of a station."""
+    station = draw.randint(0, 2)
+    if draw.random() < 0.5:
+        yield from (f"wake {station}", f"apsd {station} {draw.choice((2, 6, 15))} {draw.randint(0, 4)}", f"sleep {station}")
+    yield f"trigger {station}"
+    if draw.random() < 0.1:
+        yield f"eosp {station}"
+
+
 def exchanges(draw: random.Random, count: int) -> Iterator[str]:
     """Yields the calls of this many exchanges, which go out, arrive in part, are answered and end."""
     for exchange in range(count):
@@ -203,6 +215,8 @@ def exchanges(draw: random.Random, count: int) -> Iterator[str]:
         if draw.random() < 0.3:
             yield agreement(draw)
         yield from [group_call(draw) for _ in range(draw.choice((0, 0, 6)))]
+        if draw.random() < 0.4:
+            yield from service(draw)
         yield draw.choice(("pull be", "pull be", "pull vi"))
         for number in range(max(0, exchange - 1), exchange + 1):
             yield from [f"arrive {number} {index}" for index in range(4) if draw.random() < 0.6]

@@ -25,7 +25,7 @@ from wfdev.harness.script import Difference, expect
 
 # The time and the fields of every frame, of data frames, of block frames, of BlockAcks, of beacons and of group frames, and tshark's
 # complaints.
-HEAD_FIELDS = "frame.time_epoch wlan.fc.type_subtype wlan.fc.retry wlan.fc.moredata _ws.malformed _ws.expert.severity"
+HEAD_FIELDS = "frame.time_epoch wlan.fc.type_subtype wlan.fc.retry wlan.fc.moredata wlan.qos.eosp _ws.malformed _ws.expert.severity"
 TIM_FIELDS = "wlan.tim.dtim_count wlan.tim.dtim_period wlan.tim.bmapctl.multicast wlan.tim.bmapctl.offset wlan.tim.partial_virtual_bitmap"
 NUMBER_FIELDS = "wlan.qos.tid wlan.seq wlan.ba.basic.tidinfo wlan.fixed.ssc.sequence wlan.fixed.ssc.fragment"
 FIELDS = f"{HEAD_FIELDS} {NUMBER_FIELDS} wlan.ba.bm {TIM_FIELDS} wlan.da".split()
@@ -82,12 +82,13 @@ def expect_line(where: str, line: str, packet: Packet) -> None:
     """Compares a line of tshark with its packet."""
     octets = packet.octets
     time, *others = line.split(";")
-    fields, bitmap, tim, destination = others[:10], others[10], others[11:16], others[16]
+    fields, bitmap, tim, destination = others[:11], others[11], others[12:17], others[17]
     expect(f"{where}, time", round(float(time) * MICROSECONDS), packet.seconds * MICROSECONDS + packet.fraction)
-    kind, retry, more, malformed, severity, *numbers = [number_in(field) for field in fields]
+    kind, retry, more, ends_service, malformed, severity, *numbers = [number_in(field) for field in fields]
     if malformed is not None or (severity or 0) >= ERROR:
         raise Difference(f"{where}: tshark reports an error: {line}")
     expect(f"{where}, bits Retry and More Data", (retry, more), (octets[1] >> 3 & 1, octets[1] >> 5 & 1))
+    expect(f"{where}, bit EOSP", ends_service, octets[24] >> 4 & 1 if octets[0] == DATA_KIND else None)
     expect(f"{where}, kind", kind, KINDS[octets[0]])
     expect(f"{where}, numbers", numbers, numbers_of(octets))
     if octets[0] == BLOCK_ACK_KIND:

@@ -57,7 +57,7 @@ FRAMES = (1, 1, 2, 3, 8, 64, 65_535)
 LIMITS = (1, 40, 100, 300, 1000, 3000, 3001, 2**32 - 1)
 KINDS = (
     "join leave rate ampdu weight tick burst pull arrive answer done unsent giveup flush play back sleep wake poll stop start "
-    "rx reap agree hold begin free cease far group beacon wild"
+    "rx reap agree hold begin free cease far group beacon apsd trigger eosp wild"
 ).split()
 
 
@@ -126,6 +126,7 @@ class Maker:
         self.set_weights(play=3.0, answer=0.4, rx=0.1, reap=0.3, wild=0.05, ampdu=0.1, stop=0.1, start=0.3)
         self.set_weights(unsent=0.2, giveup=0.2, flush=0.15, weight=0.3, back=2.0)
         self.set_weights(group=0.3, beacon=0.3)
+        self.set_weights(apsd=draw.choice((0.0, 0.3, 2.0)), trigger=0.6, eosp=0.05)
         self.set_weights(agree=draw.choice((0.0, 0.3, 3.0)), hold=0.05, begin=0.05, free=0.05, cease=0.05, far=0.0)
         count = self.machine.settings.stations
         drawn = [draw.randrange(count) for _ in range(draw.choice((1, 2, 3, 6)))]
@@ -458,6 +459,45 @@ class Maker:
                 yield f"pull {held.credit}{self.limits()}"
             elif kind < 0.75:
                 yield from (f"wake {station}", f"sleep {station}", f"poll {station}")
+
+    def make_apsd(self) -> Iterator[str]:
+        """Yields delivery-enabled classes, mostly of a station that is awake, and often frames, its sleep and a trigger."""
+        awake = [held.number for held in self.machine.stations.values() if not held.asleep]
+        station = self.draw.choice(awake) if awake and self.draw.random() < 0.9 else self.station()
+        of_tid = 1 << list(Class).index(CLASS_OF[self.draw.choice(self.tids)])
+        classes = self.draw.choice((15, 15, of_tid, of_tid, of_tid, 15 - of_tid, self.draw.randrange(16)))
+        bad = self.draw.choice((16, 255)) if self.draw.random() < 0.05 else classes
+        yield f"apsd {station} {bad} {self.draw.choice((0, 0, 1, 2, 2, 4, 6, 255))}"
+        if self.draw.random() < 0.6:
+            yield from (f"enq {station} {self.draw.choice(self.tids)} 0 100" for _ in range(self.draw.choice((1, 2, 3, 9))))
+            yield f"sleep {station}"
+            yield from self.served(station)
+
+    def make_trigger(self) -> Iterator[str]:
+        """Yields a trigger, mostly of a station that sleeps, and often the pulls that it is for."""
+        asleep = [held.number for held in self.machine.stations.values() if held.asleep and held.delivery]
+        if asleep or self.draw.random() < 0.1:
+            yield from self.served(self.draw.choice(asleep) if asleep and self.draw.random() < 0.9 else self.station())
+
+    def served(self, station: int) -> Iterator[str]:
+        """Yields a trigger of a station, and often pulls and ends of exchanges of its service period."""
+        yield f"trigger {station}"
+        held = self.machine.stations.get(station)
+        if held is None or held.service is None or self.draw.random() < 0.3:
+            return
+        for access in self.draw.choices(sorted(held.delivery), k=self.draw.randint(1, 6)):
+            before = self.machine.pulled
+            yield f"pull {access}{self.limits()}"
+            if self.machine.pulled > before and self.draw.random() < 0.6:
+                yield f"done {before} lost"
+        if held.service is not None and self.draw.random() < 0.3:
+            yield self.draw.choice((f"eosp {station}", f"poll {station}", f"trigger {station}", f"wake {station}"))
+
+    def make_eosp(self) -> Iterator[str]:
+        """Yields the end of a service period, mostly of one that is open."""
+        served = [held.number for held in self.machine.stations.values() if held.service is not None]
+        if served or self.draw.random() < 0.1:
+            yield f"eosp {self.draw.choice(served) if served and self.draw.random() < 0.9 else self.station()}"
 
     def make_stop(self) -> Iterator[str]:
         """Yields a stop."""
