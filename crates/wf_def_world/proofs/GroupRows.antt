@@ -18,16 +18,16 @@ use Rattle.wf_def_world.specs.Run.{Entry, by, replies}
 use Rattle.wf_def_world.specs.Text.{text_of}
 use Rattle.wf_def_world.specs.Computed.{the_machine}
 use Rattle.wf_def_world.proofs.Rehearsals.{times}
-use Rattle.wf_frame.specs.Calls.{no_limits}
+use Rattle.wf_frame.specs.Calls.{no_limits, in_bss}
 
 -- if no station sleeps, a group frame goes at once, without a beacon
 abbrev pub nobody_sleeps_calls : List Entry
 nobody_sleeps_calls = map (by 0) (
     Asked (Join 0 64 100 3 1) ∷
-    Asked (Group (call.Accept 100)) ∷
-    Asked (Group call.Pull) ∷
-    Asked (Group call.Done) ∷
-    Asked (Group call.Pull) ∷
+    Asked (Group (in_bss 0 (call.Accept 100))) ∷
+    Asked (Group (in_bss 0 call.Pull)) ∷
+    Asked (Group (in_bss 0 call.Done)) ∷
+    Asked (Group (in_bss 0 call.Pull)) ∷
     [])
 
 pub nobody_sleeps : replies (opening (record standard { buffered = 8 })) nobody_sleeps_calls ≡
@@ -44,14 +44,14 @@ abbrev pub waits_for_the_dtim_calls : List Entry
 waits_for_the_dtim_calls = map (by 0) (
     Asked (Join 0 64 100 3 1) ∷
     Asked (Sleep 0) ∷
-    Asked (Group (call.Accept 100)) ∷
-    Asked (Group call.Pull) ∷
-    Asked (Group call.Beacon) ∷
-    Asked (Group call.Pull) ∷
-    Asked (Group call.Beacon) ∷
-    Asked (Group call.Pull) ∷
-    Asked (Group call.Done) ∷
-    Asked (Group call.Pull) ∷
+    Asked (Group (in_bss 0 (call.Accept 100))) ∷
+    Asked (Group (in_bss 0 call.Pull)) ∷
+    Asked (Group (in_bss 0 call.Beacon)) ∷
+    Asked (Group (in_bss 0 call.Pull)) ∷
+    Asked (Group (in_bss 0 call.Beacon)) ∷
+    Asked (Group (in_bss 0 call.Pull)) ∷
+    Asked (Group (in_bss 0 call.Done)) ∷
+    Asked (Group (in_bss 0 call.Pull)) ∷
     [])
 
 -- the beacons have the numbers 0 and 1, and the frame 2
@@ -74,17 +74,17 @@ abbrev pub later_frame_waits_calls : List Entry
 later_frame_waits_calls = map (by 0) (
     Asked (Join 0 64 100 3 1) ∷
     Asked (Sleep 0) ∷
-    Asked (Group (call.Accept 100)) ∷
-    Asked (Group (call.Accept 100)) ∷
-    Asked (Group call.Beacon) ∷
-    Asked (Group (call.Accept 100)) ∷
-    Asked (Group call.Pull) ∷
-    Asked (Group call.Done) ∷
-    Asked (Group call.Pull) ∷
-    Asked (Group call.Done) ∷
-    Asked (Group call.Pull) ∷
-    Asked (Group call.Beacon) ∷
-    Asked (Group call.Pull) ∷
+    Asked (Group (in_bss 0 (call.Accept 100))) ∷
+    Asked (Group (in_bss 0 (call.Accept 100))) ∷
+    Asked (Group (in_bss 0 call.Beacon)) ∷
+    Asked (Group (in_bss 0 (call.Accept 100))) ∷
+    Asked (Group (in_bss 0 call.Pull)) ∷
+    Asked (Group (in_bss 0 call.Done)) ∷
+    Asked (Group (in_bss 0 call.Pull)) ∷
+    Asked (Group (in_bss 0 call.Done)) ∷
+    Asked (Group (in_bss 0 call.Pull)) ∷
+    Asked (Group (in_bss 0 call.Beacon)) ∷
+    Asked (Group (in_bss 0 call.Pull)) ∷
     [])
 
 -- with the standard period each beacon is a DTIM beacon
@@ -107,14 +107,14 @@ abbrev pub service_ends_calls : List Entry
 service_ends_calls = map (by 0) (
     Asked (Join 0 64 100 3 1) ∷
     Asked (Sleep 0) ∷
-    times 2 (Asked (Group (call.Accept 100))) ++
-    times 2 (Asked (Group call.Beacon)) ++
-    Asked (Group call.Pull) ∷
-    Asked (Group call.Done) ∷
-    Asked (Group call.Beacon) ∷
-    Asked (Group call.Pull) ∷
-    Asked (Group call.Beacon) ∷
-    Asked (Group call.Pull) ∷
+    times 2 (Asked (Group (in_bss 0 (call.Accept 100)))) ++
+    times 2 (Asked (Group (in_bss 0 call.Beacon))) ++
+    Asked (Group (in_bss 0 call.Pull)) ∷
+    Asked (Group (in_bss 0 call.Done)) ∷
+    Asked (Group (in_bss 0 call.Beacon)) ∷
+    Asked (Group (in_bss 0 call.Pull)) ∷
+    Asked (Group (in_bss 0 call.Beacon)) ∷
+    Asked (Group (in_bss 0 call.Pull)) ∷
     [])
 
 pub service_ends : drop 5 (replies
@@ -136,11 +136,11 @@ last_sleeper_wakes_calls = map (by 0) (
     Asked (Join 1 64 100 3 1) ∷
     Asked (Sleep 0) ∷
     Asked (Sleep 1) ∷
-    times 2 (Asked (Group (call.Accept 100))) ++
+    times 2 (Asked (Group (in_bss 0 (call.Accept 100)))) ++
     Asked (Wake 0) ∷
-    Asked (Group call.Pull) ∷
+    Asked (Group (in_bss 0 call.Pull)) ∷
     Asked (Leave 1) ∷
-    Asked (Group call.Pull) ∷
+    Asked (Group (in_bss 0 call.Pull)) ∷
     [])
 
 -- the last answer has no More Data bit: nobody sleeps
@@ -157,16 +157,16 @@ last_sleeper_wakes = refl
 -- on the air
 abbrev pub group_refusals_calls : List Entry
 group_refusals_calls = map (by 0) (
-    Asked (Group call.Done) ∷
-    Asked (Group call.Pull) ∷
-    Asked (Group (call.Accept 100)) ∷
-    Asked (Group (call.Accept 100)) ∷
-    Asked (Group call.Pull) ∷
-    Asked (Group (call.Accept 100)) ∷
-    Asked (Group call.Pull) ∷
-    Asked (Group (call.Accept 100)) ∷
-    Asked (Group call.Done) ∷
-    Asked (Group call.Done) ∷
+    Asked (Group (in_bss 0 call.Done)) ∷
+    Asked (Group (in_bss 0 call.Pull)) ∷
+    Asked (Group (in_bss 0 (call.Accept 100))) ∷
+    Asked (Group (in_bss 0 (call.Accept 100))) ∷
+    Asked (Group (in_bss 0 call.Pull)) ∷
+    Asked (Group (in_bss 0 (call.Accept 100))) ∷
+    Asked (Group (in_bss 0 call.Pull)) ∷
+    Asked (Group (in_bss 0 (call.Accept 100))) ∷
+    Asked (Group (in_bss 0 call.Done)) ∷
+    Asked (Group (in_bss 0 call.Done)) ∷
     [])
 
 pub group_refusals : replies (opening (record standard { buffered = 1 })) group_refusals_calls ≡
@@ -185,11 +185,11 @@ group_refusals = refl
 
 -- with the standard settings no group frame is accepted, and each beacon is a DTIM beacon that announces none
 pub standard_has_no_group : replies (opening standard) (map (by 0) (
-    Asked (Group (call.Accept 100)) ∷
-    Asked (Group call.Beacon) ∷
-    Asked (Group call.Beacon) ∷
-    Asked (Group call.Pull) ∷
-    Asked (Group call.Done) ∷ [])) ≡
+    Asked (Group (in_bss 0 (call.Accept 100))) ∷
+    Asked (Group (in_bss 0 call.Beacon)) ∷
+    Asked (Group (in_bss 0 call.Beacon)) ∷
+    Asked (Group (in_bss 0 call.Pull)) ∷
+    Asked (Group (in_bss 0 call.Done)) ∷ [])) ≡
     Refused (Buffered 0) ∷
     reply.Group (answer.Beacon 0 false) ∷
     reply.Group (answer.Beacon 0 false) ∷
@@ -203,11 +203,11 @@ abbrev pub beside_a_station_calls : List Entry
 beside_a_station_calls = map (by 0) (
     Asked (Join 0 64 100 3 1) ∷
     Enqueue 0 0 7 1500 ∷
-    Asked (Group (call.Accept 1)) ∷
-    Asked (Group call.Pull) ∷
+    Asked (Group (in_bss 0 (call.Accept 1))) ∷
+    Asked (Group (in_bss 0 call.Pull)) ∷
     Asked (Pull Be no_limits) ∷
     Asked (Done 0 false None) ∷
-    Asked (Group call.Done) ∷
+    Asked (Group (in_bss 0 call.Done)) ∷
     Asked Reap ∷
     [])
 
@@ -230,11 +230,11 @@ abbrev pub group_in_text_calls : List Entry
 group_in_text_calls = map (by 0) (
     Asked (Join 0 64 0 3 1) ∷
     Asked (Sleep 0) ∷
-    times 3 (Asked (Group (call.Accept 100))) ++
-    times 3 (Asked (Group call.Beacon)) ++
-    Asked (Group call.Pull) ∷
-    Asked (Group call.Done) ∷
-    Asked (Group call.Pull) ∷
+    times 3 (Asked (Group (in_bss 0 (call.Accept 100)))) ++
+    times 3 (Asked (Group (in_bss 0 call.Beacon))) ++
+    Asked (Group (in_bss 0 call.Pull)) ∷
+    Asked (Group (in_bss 0 call.Done)) ∷
+    Asked (Group (in_bss 0 call.Pull)) ∷
     [])
 
 pub group_in_text : text_of (record standard { period = 3; buffered = 8 }) group_in_text_calls ≡ concat (
@@ -266,9 +266,9 @@ group_bit_beside_an_aid_calls = map (by 0) (
     Asked (Join 20 64 0 3 1) ∷
     Asked (Sleep 20) ∷
     Enqueue 20 0 7 100 ∷
-    Asked (Group (call.Accept 100)) ∷
-    Asked (Group call.Beacon) ∷
-    Asked (Group call.Beacon) ∷
+    Asked (Group (in_bss 0 (call.Accept 100))) ∷
+    Asked (Group (in_bss 0 call.Beacon)) ∷
+    Asked (Group (in_bss 0 call.Beacon)) ∷
     [])
 
 pub group_bit_beside_an_aid : text_of (record standard { stations = 32; period = 2; buffered = 8 })
@@ -290,7 +290,8 @@ unfolding the_machine digits
 group_bit_beside_an_aid = refl
 
 -- if `buffered` is 0, the summary has no line of group frames, and the TIM counts beacons
-pub period_alone : text_of (record standard { period = 3 }) (map (by 0) (Asked (Group call.Beacon) ∷ []))
+pub period_alone :
+    text_of (record standard { period = 3 }) (map (by 0) (Asked (Group (in_bss 0 call.Beacon)) ∷ []))
     ≡ concat (
     codes "beacon 2 0\n" ∷
     codes "calls 1\n" ∷

@@ -6,6 +6,7 @@ mod NearMisses
 mod LegacyRows
 mod GroupRows
 mod ServiceRows
+mod BssRows
 pub mod Unserved
 mod Charges
 pub mod Longest

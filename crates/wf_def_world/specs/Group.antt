@@ -18,7 +18,7 @@ pub record GroupFrame : Type 0 where
   pub id : ℕ
   pub len : ℕ
 
--- the state of group frames and of beacons
+-- the state of the group frames and of the beacons of a BSS
 pub record GroupState : Type 0 where
   pub count : ℕ  -- the DTIM count of the latest beacon: how many beacons go before the next DTIM beacon
   pub announced : Bool  -- whether the latest beacon announced group frames
@@ -47,6 +47,10 @@ no_group = record {
 -- the number of group frames that were accepted and not yet sent
 abbrev pub held_count : GroupState → ℕ
 held_count g = length g.queued + (if is_some g.flying then 1 else 0)
+
+-- the number of BSSs, from the setting `bsses`; each has its own state, and its number is below this
+abbrev pub bss_count : ℕ → ℕ
+bss_count bsses = max 1 bsses
 
 -- ---- airtime
 

@@ -5,7 +5,7 @@ use Rattle.std.specs.List.{list_any}
 use Rattle.wf_frame.specs.Settings.{is_bad_air}
 use Rattle.wf_frame.specs.declared.classes.Class.{Class}
 use Rattle.wf_frame.specs.declared.notes.Ask.{Ask}
-use Rattle.wf_frame.specs.declared.notes.Ask.TheVariants.{Join, Leave, Rate, Tick, Pull, Arrive, Answer, Done, Sleep, Wake, Poll, Rx, Reap, Ampdu, Stop, Start, Unsent, GiveUp, Flush, Offload, Weight, Hold, Begin, Free, Cease, Group, Service}
+use Rattle.wf_frame.specs.declared.notes.Ask.TheVariants.{Join, Leave, Rate, Tick, Pull, Arrive, Answer, Done, Sleep, Wake, Poll, Rx, Reap, Ampdu, Stop, Start, Unsent, GiveUp, Flush, Offload, Weight, Hold, Begin, Free, Cease, Group, Service, Bss}
 use Rattle.wf_frame.specs.declared.notes.Ask.TheVariants as call
 use Rattle.wf_frame.specs.declared.notes.GroupAsk.{GroupAsk}
 use Rattle.wf_frame.specs.declared.notes.GroupAsk.TheVariants as group
@@ -14,15 +14,15 @@ use Rattle.wf_frame.specs.declared.notes.ServiceAsk.TheVariants as service
 use Rattle.wf_frame.specs.declared.notes.Note.{Note}
 use Rattle.wf_frame.specs.declared.notes.Note.TheVariants.{Enqueue, Asked}
 use Rattle.wf_frame.specs.declared.notes.Refusal.{Refusal}
-use Rattle.wf_frame.specs.declared.notes.Refusal.TheVariants.{BadStation, BadWindow, BadStart, BadExponent, BadRate, BadTick, BadTid, BadAir, BadIndex, Live, NoStation, NoExchange, NoAnswer, Open, Room, Sleeping, Full, Idle, Answered, Arrived, Nothing, Asleep, Awake, Polled, Debt, BadWeight, Ahead, BadAmpdu, Stopped, Started, Marked, Offloaded, Agreed, Held, NotHeld, NotAgreed, Waits, Legacy, Buffered, Flying, BadClasses}
+use Rattle.wf_frame.specs.declared.notes.Refusal.TheVariants.{BadStation, BadWindow, BadStart, BadExponent, BadRate, BadTick, BadTid, BadAir, BadIndex, Live, NoStation, NoExchange, NoAnswer, Open, Room, Sleeping, Full, Idle, Answered, Arrived, Nothing, Asleep, Awake, Polled, Debt, BadWeight, Ahead, BadAmpdu, Stopped, Started, Marked, Offloaded, Agreed, Held, NotHeld, NotAgreed, Waits, Legacy, Buffered, Flying, BadClasses, BadBss}
 use Rattle.wf_def_lists.specs.Table.{has, upto}
 use Rattle.wf_def_lists.specs.Bounds.{greatest_window, greatest_start, greatest_exponent, greatest_weight, greatest_tid, greatest_tick, greatest_air, least_ampdu, greatest_ampdu, deepest_deficit}
 use Rattle.wf_def_air.specs.Airtime.{is_single}
 use Rattle.wf_def_agreement.specs.Session.{waiting_numbers}
 use Rattle.wf_def_world.specs.Rates.{rate_asked, is_rate_with}
-use Rattle.wf_def_world.specs.Group.{may_go}
+use Rattle.wf_def_world.specs.Group.{bss_count, may_go}
 use Rattle.wf_def_world.specs.Service.{is_delivered, is_polled}
-use Rattle.wf_def_world.specs.World.{World, Exchange, station, session, is_offloaded, is_agreed, is_held_back, is_live, inside, is_any_asleep, share, exchange, owed_by_all}
+use Rattle.wf_def_world.specs.World.{World, Exchange, station, session, is_offloaded, is_agreed, is_held_back, is_live, inside, group_of, is_any_asleep, share, exchange, owed_by_all}
 use Rattle.wf_frame.specs.Classes.{same_class, lower_tid, upper_tid, class_of, greatest_classes}
 use Rattle.wf_def_world.specs.FlowQueues.{frames_queued}
 use Rattle.wf_def_world.specs.CanSend.{can_send, can_send_in}
@@ -40,6 +40,10 @@ is_within low high n = nat_le low n && nat_le n high
 -- whether s is not the number of a station: it is not below the setting `stations`
 abbrev pub is_bad_station : World → ℕ → Bool
 is_bad_station w s = nat_le w.config.stations s
+
+-- whether b is not the number of a BSS
+abbrev pub is_bad_bss : World → ℕ → Bool
+is_bad_bss w b = nat_le (bss_count w.config.bsses) b
 
 -- the number of frames that are queued for a station in a class
 abbrev pub queued_in_class : World → ℕ → Class → ℕ
@@ -92,18 +96,18 @@ abbrev pub exchange_has : Option Exchange → (Exchange → Bool) → Bool
 exchange_has None p = false
 exchange_has (Some x) p = p x
 
--- the number of group frames that are queued
-abbrev pub group_queued : World → ℕ
-group_queued w = length w.group.queued
+-- the number of group frames of BSS b that are queued
+abbrev pub group_queued : World → ℕ → ℕ
+group_queued w b = length (group_of w b).queued
 
--- the rows of a call about group frames, in order
-abbrev pub group_refusals : World → GroupAsk → List (Bool × Refusal)
-group_refusals w (group.Accept len) = (
-    (nat_le w.config.buffered (group_queued w), Buffered (group_queued w)) ∷ [])
-group_refusals w group.Beacon = []
-group_refusals w group.Pull = (
-    (is_some w.group.flying, Flying) ∷ (not (may_go (is_any_asleep w) w.group), Idle) ∷ [])
-group_refusals w group.Done = ((is_none w.group.flying, Nothing) ∷ [])
+-- the rows of a call about the group frames of BSS b that follow the first, in order
+abbrev pub group_refusals : World → ℕ → GroupAsk → List (Bool × Refusal)
+group_refusals w b (group.Accept len) = (
+    (nat_le w.config.buffered (group_queued w b), Buffered (group_queued w b)) ∷ [])
+group_refusals w b group.Beacon = []
+group_refusals w b group.Pull = (
+    (is_some (group_of w b).flying, Flying) ∷ (not (may_go (is_any_asleep w b) (group_of w b)), Idle) ∷ [])
+group_refusals w b group.Done = ((is_none (group_of w b).flying, Nothing) ∷ [])
 
 -- the rows of a call about the service periods of a station, in order
 abbrev pub service_refusals : World → ServiceAsk → List (Bool × Refusal)
@@ -213,8 +217,11 @@ refusals_of w (GiveUp e i) = (
     (exchange_has (exchange w e) (λ x. is_marked x i), Marked) ∷ [])
 refusals_of w (Flush s t) = (
     (is_bad_station w s, BadStation) ∷ (nat_lt greatest_tid t, BadTid) ∷ (not (is_live w s), NoStation) ∷ [])
-refusals_of w (Group ask) = group_refusals w ask
+refusals_of w (Group g) = ((is_bad_bss w g.bss, BadBss) ∷ group_refusals w g.bss g.ask)
 refusals_of w (Service ask) = service_refusals w ask
+refusals_of w (Bss s b) = (
+    (is_bad_station w s, BadStation) ∷ (is_bad_bss w b, BadBss) ∷ (not (is_live w s), NoStation) ∷
+    ((station w s).asleep, Asleep) ∷ [])
 
 -- the rows of a call, in order
 abbrev pub refusals : World → Note → List (Bool × Refusal)

@@ -4,9 +4,9 @@ use Rattle.wf_frame.specs.declared.classes.Class.{Class}
 use Rattle.wf_frame.specs.declared.classes.Class.TheVariants.{Bk, Be, Vi, Vo}
 use Rattle.wf_frame.specs.declared.classes.Cause.TheVariants.{Left, Flushed, Ended}
 use Rattle.wf_frame.specs.declared.classes.Fate.TheVariants.{Held, Dropped}
-use Rattle.wf_frame.specs.declared.notes.Ask.TheVariants.{Join, Leave, Rate, Tick, Pull, Arrive, Answer, Done, Sleep, Wake, Poll, Rx, Reap, Ampdu, Stop, Start, Unsent, GiveUp, Flush, Offload, Weight, Hold, Begin, Free, Cease, Group, Service}
+use Rattle.wf_frame.specs.declared.notes.Ask.TheVariants.{Join, Leave, Rate, Tick, Pull, Arrive, Answer, Done, Sleep, Wake, Poll, Rx, Reap, Ampdu, Stop, Start, Unsent, GiveUp, Flush, Offload, Weight, Hold, Begin, Free, Cease, Group, Service, Bss}
 use Rattle.wf_frame.specs.declared.notes.Ask.TheVariants as call
-use Rattle.wf_frame.specs.declared.notes.GroupAsk.{GroupAsk}
+use Rattle.wf_frame.specs.declared.notes.GroupCall.{GroupCall}
 use Rattle.wf_frame.specs.declared.notes.ServiceAsk.{ServiceAsk}
 use Rattle.wf_frame.specs.declared.notes.ServiceAsk.TheVariants as service
 use Rattle.wf_frame.specs.declared.notes.ServiceReply.{ServiceReply}
@@ -31,7 +31,7 @@ use Rattle.wf_def_world.specs.Rates.{rate_asked}
 use Rattle.wf_frame.specs.declared.settings.Config.{Config}
 use Rattle.wf_def_world.specs.Group.{group_after, group_answer}
 use Rattle.wf_def_world.specs.Service.{is_delivered, is_polled, station_served, after_service}
-use Rattle.wf_def_world.specs.World.{World, Mode, Agreed, Station, Share, Exchange, new_share, quantum, pending_air, new_tid, station, session, receiver, share, tid_of, rotation, frame, accepted_count, is_wide, is_any_asleep, exchange, with_bounds, with_station, on_station, on_share, on_session, on_receiver, with_rotation, with_mode, with_queues, with_exchange, without_exchange, with_frames_finished}
+use Rattle.wf_def_world.specs.World.{World, Mode, Agreed, Station, Share, Exchange, new_share, quantum, pending_air, new_tid, station, session, receiver, share, tid_of, rotation, frame, accepted_count, group_of, is_wide, is_any_asleep, exchange, with_bounds, with_station, on_station, on_share, on_session, on_receiver, on_group, with_rotation, with_mode, with_queues, with_exchange, without_exchange, with_frames_finished}
 use Rattle.wf_frame.specs.Classes.{all_classes}
 use Rattle.wf_def_world.specs.FlowQueues.{dropped_for_limit, after_limit, queue_for, after_put_in, after_queues_left, after_queues_flushed}
 use Rattle.wf_def_world.specs.CanSend.{can_send_in, with_listings_of}
@@ -51,8 +51,8 @@ unreached w = record { world = w; reply = Released [] }
 
 -- ---- stations and clock
 
--- a station that joins: it has a quantum of airtime in each class and, on each TID, this mode, this window
--- and this first number
+-- a station that joins, in BSS 0: it has a quantum of airtime in each class and, on each TID, this mode, this
+-- window and this first number
 abbrev pub new_station : Config → Mode → ℕ → ℕ → ℕ → ℕ → Bool → Station
 new_station config mode window start exponent weight offloaded =
     let share = new_share (config.quantum * weight) in
@@ -65,6 +65,7 @@ new_station config mode window start exponent weight offloaded =
       ampdu = None;
       offloaded = offloaded;
       stopped = false;
+      bss = 0;
       asleep = false;
       credit = None;
       delivery = 0;
@@ -250,6 +251,10 @@ abbrev pub start_outcome : World → ℕ → Outcome
 start_outcome w s =
     record { world = on_station w s (λ x. record x { stopped = false }); reply = reply.Started }
 
+-- Bss: the station is of this BSS from now on
+abbrev pub bss_outcome : World → ℕ → ℕ → Outcome
+bss_outcome w s b = record { world = on_station w s (λ x. record x { bss = b }); reply = Set }
+
 -- Tick: the clock moves forward by this number of microseconds
 unfoldable pub tick_outcome : World → ℕ → Outcome
 tick_outcome w by = record { world = record w { clock = w.clock + by }; reply = Now (w.clock + by) }
@@ -419,11 +424,11 @@ service_outcome w ask = record {
 
 -- ---- group frames
 
--- A call about group frames: it changes nothing but their state.
-abbrev pub group_outcome : World → GroupAsk → Outcome
-group_outcome w ask = record {
-  world = record w { group = group_after w.config ask w.group };
-  reply = reply.Group (group_answer w.config (is_any_asleep w) ask w.group);
+-- A call about the group frames of a BSS: it changes nothing but their state.
+abbrev pub group_outcome : World → GroupCall → Outcome
+group_outcome w g = record {
+  world = on_group w g.bss (group_after w.config g.ask);
+  reply = reply.Group (group_answer w.config (is_any_asleep w g.bss) g.ask (group_of w g.bss));
 }
 
 -- ---- the step
@@ -459,8 +464,9 @@ outcome_of w (Asked (Start s)) = start_outcome w s
 outcome_of w (Asked (Unsent e i)) = outcome_where_open w (exchange w e) (λ x. unsent_outcome w x i)
 outcome_of w (Asked (GiveUp e i)) = outcome_where_open w (exchange w e) (λ x. give_up_outcome w x i)
 outcome_of w (Asked (Flush s t)) = flush_outcome w s t
-outcome_of w (Asked (Group ask)) = group_outcome w ask
+outcome_of w (Asked (Group g)) = group_outcome w g
 outcome_of w (Asked (Service ask)) = service_outcome w ask
+outcome_of w (Asked (Bss s b)) = bss_outcome w s b
 
 -- the station of an exchange, if the exchange is open
 abbrev pub station_of : Option Exchange → Option ℕ
@@ -497,8 +503,9 @@ concerned_station w (Asked (Hold s t)) = Some s
 concerned_station w (Asked (Begin s t window)) = Some s
 concerned_station w (Asked (Free s t)) = Some s
 concerned_station w (Asked (Cease s t)) = Some s
-concerned_station w (Asked (Group ask)) = None
+concerned_station w (Asked (Group g)) = None
 concerned_station w (Asked (Service ask)) = Some (station_served ask)
+concerned_station w (Asked (Bss s b)) = Some s
 
 -- The world after a refusal. Only Idle without the setting `pending` changes it: the pick found no ready
 -- station, gave the listed ones their quanta, and emptied the lists of the class.

@@ -20,8 +20,9 @@ use Rattle.wf_frame.specs.declared.notes.ReplyNote.TheVariants.{Joined, Set, Now
 use Rattle.wf_frame.specs.declared.notes.ReplyNote.TheVariants as reply
 use Rattle.wf_frame.specs.declared.settings.Config.{Config}
 use Rattle.wf_def_tim.specs.Tim.{tim_element, with_group_bit}
-use Rattle.wf_def_world.specs.Group.{dtim_period, held_count}
-use Rattle.wf_def_world.specs.World.{World, Share, share, station, live_stations, accepted_count, opening}
+use Rattle.wf_def_lists.specs.Table.{upto}
+use Rattle.wf_def_world.specs.Group.{GroupState, bss_count, dtim_period, held_count}
+use Rattle.wf_def_world.specs.World.{World, Share, share, station, live_stations, accepted_count, group_of, opening}
 use Rattle.wf_frame.specs.Classes.{all_classes, class_word, fate_word}
 use Rattle.wf_frame.specs.Refusals.{refusal_word, number_told}
 use Rattle.wf_frame.specs.Words.{line}
@@ -174,23 +175,42 @@ share_line s c x =
 abbrev pub share_lines : World → ℕ → List ℕ
 share_lines w s = concat (map (λ c. share_line s c (share w s c)) all_classes)
 
--- line 6, if the setting `buffered` allows group frames: how many were accepted, sent and are held, and the
--- airtime of those that were sent, in microseconds
-abbrev pub group_line : World → List ℕ
-group_line w =
+-- the last words of a line about BSS b, if there are several
+abbrev pub bss_words : World → ℕ → List (List ℕ)
+bss_words w b = if nat_lt 1 w.config.bsses then codes "bss" ∷ decimal b ∷ [] else []
+
+-- line 6, if the setting `buffered` allows group frames: how many of BSS b were accepted, sent and are held,
+-- and the airtime of those that were sent, in microseconds
+abbrev pub group_line : World → ℕ → List ℕ
+group_line w b =
+    let g : GroupState = group_of w b in
     if w.config.buffered == 0 then []
-    else line (codes "group" ∷ decimal w.group.accepted ∷ codes "sent" ∷ decimal w.group.sent ∷
-    codes "held" ∷ decimal (held_count w.group) ∷ codes "air" ∷ decimal w.group.air ∷ [])
+    else line (codes "group" ∷ decimal g.accepted ∷ codes "sent" ∷ decimal g.sent ∷
+    codes "held" ∷ decimal (held_count g) ∷ codes "air" ∷ decimal g.air ∷ [] ++ bss_words w b)
 
--- the TIM element with these AIDs and what the latest beacon said: its DTIM count and period, and whether it
--- announced group frames
-abbrev pub beacon_map : World → List ℕ → List ℕ
-beacon_map w aids =
-    with_group_bit w.group.announced (tim_element w.group.count (dtim_period w.config.period) aids)
+-- the TIM element with these AIDs and what the latest beacon of BSS b said: its DTIM count and period, and
+-- whether it announced group frames
+abbrev pub beacon_map : World → ℕ → List ℕ → List ℕ
+beacon_map w b aids =
+    let g : GroupState = group_of w b in
+    with_group_bit g.announced (tim_element g.count (dtim_period w.config.period) aids)
 
--- the AIDs of the live stations that sleep and have traffic, rising: station s has AID s + 1
-abbrev pub with_traffic : World → List ℕ
-with_traffic w = map (λ s. s + 1) (filter (λ s. (station w s).asleep && has_more w s) (live_stations w))
+-- whether a station of BSS b sleeps and has traffic
+abbrev pub is_awaited : World → ℕ → ℕ → Bool
+is_awaited w b s = (station w s).asleep && (((station w s).bss == b) && has_more w s)
+
+-- the AIDs of the live stations of BSS b that sleep and have traffic, rising: station s has AID s + 1
+abbrev pub with_traffic : World → ℕ → List ℕ
+with_traffic w b = map (λ s. s + 1) (filter (is_awaited w b) (live_stations w))
+
+-- line 7: the octets of the TIM element of BSS b
+abbrev pub tim_line : World → ℕ → List ℕ
+tim_line w b =
+    line (codes "tim" ∷ concat (map (hex 2) (beacon_map w b (with_traffic w b))) ∷ [] ++ bss_words w b)
+
+-- the lines of BSS b
+abbrev pub bss_lines : World → ℕ → List ℕ
+bss_lines w b = group_line w b ++ tim_line w b
 
 -- the summary of a world after this number of calls
 abbrev pub summary : World → ℕ → List ℕ
@@ -199,8 +219,7 @@ summary w calls =
     ++ line (tally_words w)
     ++ line (codes "exchanges" ∷ decimal w.exchanges ∷ codes "open" ∷ decimal (length w.opened) ∷ [])
     ++ concat (map (share_lines w) (live_stations w))
-    ++ group_line w
-    ++ line (codes "tim" ∷ concat (map (hex 2) (beacon_map w (with_traffic w))) ∷ [])
+    ++ concat (map (bss_lines w) (upto (bss_count w.config.bsses)))
 
 -- the answer lines of a history's replies, in order
 abbrev pub answer_lines : Config → List Entry → List ℕ

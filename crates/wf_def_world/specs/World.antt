@@ -81,6 +81,7 @@ pub record Station : Type 0 where
   pub ampdu : Option ℕ  -- the most octets of its aggregates of VHT and HE, if that was stated
   pub offloaded : Bool  -- whether its device numbers, aggregates and repeats its frames
   pub stopped : Bool  -- whether no pull picks it
+  pub bss : ℕ  -- the number of its BSS, for whose beacons it wakes
   pub asleep : Bool
   pub credit : Option Class  -- the class in which a sleeping station may receive one exchange
   pub delivery : ℕ  -- the set of its delivery-enabled classes, as a number: 15 has all four
@@ -107,6 +108,7 @@ no_station = record {
   ampdu = None;
   offloaded = false;
   stopped = false;
+  bss = 0;
   asleep = false;
   credit = None;
   delivery = 0;
@@ -187,7 +189,7 @@ pub record World : Type 0 where
   pub frames : List Frame  -- by id
   pub finished : List ℕ  -- the ids of frames with a fate that are not reaped, in the order of their fates
   pub bounds : Bounds  -- those of the latest pull
-  pub group : GroupState  -- the group frames and the beacons, which only the calls about them change
+  pub groups : List GroupState  -- group frames and beacons, by BSS; only the calls about them change these
 
 -- the world before the first call
 abbrev pub opening : Config → World
@@ -202,7 +204,7 @@ opening config = record {
   frames = [];
   finished = [];
   bounds = no_bounds;
-  group = no_group;
+  groups = [];
 }
 
 -- ---- reading a world
@@ -263,6 +265,10 @@ rotation w c = at no_keys w.rotations (class_number c)
 abbrev pub frame : World → ℕ → Frame
 frame w id = at no_frame w.frames id
 
+-- the group frames and the beacons of BSS b
+abbrev pub group_of : World → ℕ → GroupState
+group_of w b = at no_group w.groups b
+
 -- the length in octets of the frame that a call brings; 0 if it brings none
 abbrev pub len_of : Note → ℕ
 len_of (Enqueue station tid flow len) = len
@@ -290,9 +296,10 @@ inside w = count_by (λ f. is_held f.fate) w.frames + length w.finished
 abbrev pub live_stations : World → List ℕ
 live_stations w = filter (is_live w) (upto w.config.stations)
 
--- whether some live station sleeps
-abbrev pub is_any_asleep : World → Bool
-is_any_asleep w = list_any (λ s. (station w s).asleep) (live_stations w)
+-- whether some live station of BSS b sleeps
+abbrev pub is_any_asleep : World → ℕ → Bool
+is_any_asleep w b =
+    list_any (λ s. (station w s).asleep && ((station w s).bss == b)) (live_stations w)
 
 -- CoDel's parameters for the queues of station s, which depend on its rate
 abbrev pub codel_params : World → ℕ → Params
@@ -368,6 +375,10 @@ on_share w s c f =
 -- the world with f applied to queue q
 unfoldable pub on_queue : World → ℕ → (Queue → Queue) → World
 on_queue w q f = record w { queues = change new_queue w.queues q f }
+
+-- the world with f applied to the group frames and the beacons of BSS b
+abbrev pub on_group : World → ℕ → (GroupState → GroupState) → World
+on_group w b f = record w { groups = change no_group w.groups b f }
 
 -- the world in which the rotation of class c is r
 unfoldable pub with_rotation : World → Class → Rotation → World

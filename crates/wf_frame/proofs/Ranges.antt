@@ -3,7 +3,7 @@
 use Rattle.std.proofs.Common.{◌≡◌, ◌∙◌, ◌↔◌, ℕ, zero, suc, ◌<◌, ◌≤◌, nat_le, Bool, true, false, cond, not, ◌&&◌, List, [], ◌∷◌, get_or, length, None, Some, find, refl, ap, lit<, arith}
 use Rattle.wf_frame.specs.declared.settings.Config.{Config}
 use Rattle.wf_frame.specs.declared.settings.Field.{Field}
-use Rattle.wf_frame.specs.declared.settings.Field.TheVariants.{Stations, Flows, Limit, Room, FlowQuantum, Quantum, Inflight, Attempts, Agg, Cap, Sleeping, Calls, Charge, Debt, AqlTotal, KeepOrder, CodelReset, Aql, Pending, Overhead, CapVi, CapVo, Answers, Credits, Legacy, Period, Buffered}
+use Rattle.wf_frame.specs.declared.settings.Field.TheVariants.{Stations, Flows, Limit, Room, FlowQuantum, Quantum, Inflight, Attempts, Agg, Cap, Sleeping, Calls, Charge, Debt, AqlTotal, KeepOrder, CodelReset, Aql, Pending, Overhead, CapVi, CapVo, Answers, Credits, Legacy, Period, Buffered, Bsses}
 use Rattle.wf_frame.specs.Settings.{fields, lowest_of, greatest_of, value_of, with_value, is_in_range, first_out_of_range, IsInRange}
 
 -- if nothing is found, the first item does not pass and nothing is found after it
@@ -66,6 +66,7 @@ each_bounded c h Credits = h.credits
 each_bounded c h Legacy = h.legacy
 each_bounded c h Period = h.period
 each_bounded c h Buffered = h.buffered
+each_bounded c h Bsses = h.bsses
 
 all_bounded : (c : Config) → ((field : Field) → IsBounded c field) → IsInRange c
 all_bounded c each = record {
@@ -96,6 +97,7 @@ all_bounded c each = record {
   legacy = each Legacy;
   period = each Period;
   buffered = each Buffered;
+  bsses = each Bsses;
 }
 
 -- if one setting is set to a value in its range, each setting is in its range
@@ -128,6 +130,7 @@ bounded_anew c Credits Credits value h b = b
 bounded_anew c Legacy Legacy value h b = b
 bounded_anew c Period Period value h b = b
 bounded_anew c Buffered Buffered value h b = b
+bounded_anew c Bsses Bsses value h b = b
 bounded_anew c field other value h b = each_bounded c h other
 
 -- end bounds
@@ -170,6 +173,7 @@ in_range c none =
       legacy = bounds _ _ _ (holds 24 Stations (lit< tt));
       period = bounds _ _ _ (holds 25 Stations (lit< tt));
       buffered = bounds _ _ _ (holds 26 Stations (lit< tt));
+      bsses = bounds _ _ _ (holds 27 Stations (lit< tt));
     }
 
 -- end found

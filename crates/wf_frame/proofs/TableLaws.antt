@@ -17,7 +17,7 @@ use Rattle.wf_frame.specs.declared.notes.GroupAsk.TheVariants as group
 use Rattle.wf_frame.specs.declared.notes.ServiceAsk.{ServiceAsk}
 use Rattle.wf_frame.specs.declared.notes.ServiceAsk.TheVariants as service
 use Rattle.wf_frame.specs.declared.notes.AskedRate.TheVariants.{Ht}
-use Rattle.wf_frame.specs.Calls.{args_of, form_of_limits, values_of_frames, values_of_air, form_of_group, values_of_group, form_of_service, values_of_service, limits, ask_of, note_form, note_values, note_made, enqueued, AreOfKinds}
+use Rattle.wf_frame.specs.Calls.{args_of, form_of_limits, values_of_frames, values_of_air, form_of_group, values_of_group, in_bss, form_of_service, values_of_service, limits, ask_of, note_form, note_values, note_made, enqueued, AreOfKinds}
 
 -- the same for a Pull with these limits
 pull_made_again : (class : Class) (frames air : Option ℕ) →
@@ -29,12 +29,13 @@ pull_made_again class None (Some air) = refl
 pull_made_again class (Some frames) (Some air) = refl
 
 -- the same for a call about group frames
-group_made_again : (ask : GroupAsk) →
-    note_made (form_of_group ask) (values_of_group ask) ≡ Some (Asked (Group ask))
-group_made_again (group.Accept len) = refl
-group_made_again group.Beacon = refl
-group_made_again group.Pull = refl
-group_made_again group.Done = refl
+group_made_again : (bss : ℕ) (ask : GroupAsk) →
+    note_made (form_of_group ask) (values_of_group ask ++ value.Octet bss ∷ [])
+    ≡ Some (Asked (Group (in_bss bss ask)))
+group_made_again bss (group.Accept len) = refl
+group_made_again bss group.Beacon = refl
+group_made_again bss group.Pull = refl
+group_made_again bss group.Done = refl
 
 -- the same for a call about service periods
 service_made_again : (ask : ServiceAsk) →
@@ -49,7 +50,7 @@ pub made_again : (note : Note) → note_made (note_form note) (note_values note)
 made_again (Asked (Rate station (Ht mcs mhz short))) = refl
 made_again (Asked (Done exchange heard None)) = refl
 made_again (Asked (Pull class limits)) = pull_made_again class limits.frames limits.air
-made_again (Asked (Group ask)) = group_made_again ask
+made_again (Asked (Group call)) = group_made_again call.bss call.ask
 made_again (Asked (Service ask)) = service_made_again ask
 made_again note = refl
 

@@ -15,7 +15,8 @@ use Rattle.wf_frame.specs.declared.calls.Value.TheVariants as value
 use Rattle.wf_frame.specs.declared.notes.Note.{Note}
 use Rattle.wf_frame.specs.declared.notes.Note.TheVariants.{Enqueue, Asked}
 use Rattle.wf_frame.specs.declared.notes.Ask.{Ask}
-use Rattle.wf_frame.specs.declared.notes.Ask.TheVariants.{Join, Leave, Rate, Tick, Pull, Arrive, Answer, Done, Sleep, Wake, Poll, Rx, Reap, Ampdu, Stop, Start, Unsent, GiveUp, Flush, Offload, Weight, Plain, Hold, Begin, Free, Cease, Group, Service}
+use Rattle.wf_frame.specs.declared.notes.Ask.TheVariants.{Join, Leave, Rate, Tick, Pull, Arrive, Answer, Done, Sleep, Wake, Poll, Rx, Reap, Ampdu, Stop, Start, Unsent, GiveUp, Flush, Offload, Weight, Plain, Hold, Begin, Free, Cease, Group, Service, Bss}
+use Rattle.wf_frame.specs.declared.notes.GroupCall.{GroupCall}
 use Rattle.wf_frame.specs.declared.notes.GroupAsk.{GroupAsk}
 use Rattle.wf_frame.specs.declared.notes.GroupAsk.TheVariants as group
 use Rattle.wf_frame.specs.declared.notes.ServiceAsk.{ServiceAsk}
@@ -74,13 +75,14 @@ form_row form.Hold = row 23 (codes "hold") (codes "hold S TID")
 form_row form.Begin = row 24 (codes "begin") (codes "begin S TID W")
 form_row form.Free = row 25 (codes "free") (codes "free S TID")
 form_row form.Cease = row 26 (codes "cease") (codes "cease S TID")
-form_row form.Group = row 27 (codes "group") (codes "group LENGTH")
-form_row form.Beacon = row 28 (codes "beacon") (codes "beacon")
-form_row form.Gpull = row 29 (codes "gpull") (codes "gpull")
-form_row form.Gdone = row 30 (codes "gdone") (codes "gdone")
+form_row form.Group = row 27 (codes "group") (codes "group LENGTH [B]")
+form_row form.Beacon = row 28 (codes "beacon") (codes "beacon [B]")
+form_row form.Gpull = row 29 (codes "gpull") (codes "gpull [B]")
+form_row form.Gdone = row 30 (codes "gdone") (codes "gdone [B]")
 form_row form.Apsd = row 31 (codes "apsd") (codes "apsd S CLASSES MAX")
 form_row form.Trigger = row 32 (codes "trigger") (codes "trigger S")
 form_row form.Eosp = row 33 (codes "eosp") (codes "eosp S")
+form_row form.Bss = row 34 (codes "bss") (codes "bss S B")
 
 -- The form is one of a call about agreements.
 abbrev pub IsOfAgreement : CallForm → Type 0
@@ -90,12 +92,13 @@ IsOfAgreement form.Free = Unit {0}
 IsOfAgreement form.Cease = Unit {0}
 IsOfAgreement _ = ⊥
 
--- The form is one of a call about group frames.
+-- The form is one of a call about a BSS: about its group frames, or by which a station gets it.
 abbrev pub IsOfGroup : CallForm → Type 0
 IsOfGroup form.Group = Unit {0}
 IsOfGroup form.Beacon = Unit {0}
 IsOfGroup form.Gpull = Unit {0}
 IsOfGroup form.Gdone = Unit {0}
+IsOfGroup form.Bss = Unit {0}
 IsOfGroup _ = ⊥
 
 -- The form is one of a call about service periods.
@@ -159,13 +162,14 @@ arguments_of form.Hold = argument.Station ∷ argument.Tid ∷ []
 arguments_of form.Begin = argument.Station ∷ argument.Tid ∷ argument.Window ∷ []
 arguments_of form.Free = argument.Station ∷ argument.Tid ∷ []
 arguments_of form.Cease = argument.Station ∷ argument.Tid ∷ []
-arguments_of form.Group = argument.Length ∷ []
-arguments_of form.Beacon = []
-arguments_of form.Gpull = []
-arguments_of form.Gdone = []
+arguments_of form.Group = argument.Length ∷ argument.Bss ∷ []
+arguments_of form.Beacon = argument.Bss ∷ []
+arguments_of form.Gpull = argument.Bss ∷ []
+arguments_of form.Gdone = argument.Bss ∷ []
 arguments_of form.Apsd = argument.Station ∷ argument.Classes ∷ argument.Most ∷ []
 arguments_of form.Trigger = argument.Station ∷ []
 arguments_of form.Eosp = argument.Station ∷ []
+arguments_of form.Bss = argument.Station ∷ argument.NewBss ∷ []
 
 -- the greatest number of frames that a line gives to a pull as its limit
 abbrev pub greatest_frames : ℕ
@@ -203,6 +207,8 @@ argument_kind argument.Allowed = kind.Number 1 4294967295
 argument_kind argument.Octets = kind.Long
 argument_kind argument.Classes = kind.Octet
 argument_kind argument.Most = kind.Octet
+argument_kind argument.Bss = kind.Bss
+argument_kind argument.NewBss = kind.Octet
 
 -- the kinds of a form's arguments, in order
 abbrev pub args_of : CallForm → List Arg
@@ -212,9 +218,14 @@ args_of form = map argument_kind (arguments_of form)
 abbrev pub weight_default : ℕ
 weight_default = 1
 
+-- the BSS of a call about group frames that gives none
+abbrev pub bss_default : ℕ
+bss_default = 0
+
 -- the value of an argument that is left out, if it may be
 abbrev pub default_of : Arg → Option Value
 default_of kind.Weight = Some (value.Octet weight_default)
+default_of kind.Bss = Some (value.Octet bss_default)
 default_of _ = None
 
 -- all forms, in the order of the help
@@ -225,7 +236,7 @@ forms =
     ∷ form.Answer ∷ form.Done ∷ form.DoneAir ∷ form.Sleep ∷ form.Wake ∷ form.Poll ∷ form.Rx ∷ form.Reap
     ∷ form.Ampdu ∷ form.Stop ∷ form.Start ∷ form.Unsent ∷ form.GiveUp ∷ form.Flush ∷ form.Offload
     ∷ form.Weight ∷ form.Plain ∷ form.Hold ∷ form.Begin ∷ form.Free ∷ form.Cease ∷ form.Group ∷ form.Beacon
-    ∷ form.Gpull ∷ form.Gdone ∷ form.Apsd ∷ form.Trigger ∷ form.Eosp ∷ []
+    ∷ form.Gpull ∷ form.Gdone ∷ form.Apsd ∷ form.Trigger ∷ form.Eosp ∷ form.Bss ∷ []
 
 -- all calls, in their first forms
 abbrev pub calls : List CallForm
@@ -234,7 +245,7 @@ calls =
     ∷ form.Done ∷ form.Sleep ∷ form.Wake ∷ form.Poll ∷ form.Rx ∷ form.Reap ∷ form.Ampdu ∷ form.Stop
     ∷ form.Start ∷ form.Unsent ∷ form.GiveUp ∷ form.Flush ∷ form.Offload ∷ form.Weight ∷ form.Plain
     ∷ form.Hold ∷ form.Begin ∷ form.Free ∷ form.Cease ∷ form.Group ∷ form.Beacon ∷ form.Gpull ∷ form.Gdone
-    ∷ form.Apsd ∷ form.Trigger ∷ form.Eosp ∷ []
+    ∷ form.Apsd ∷ form.Trigger ∷ form.Eosp ∷ form.Bss ∷ []
 
 -- the first form of the call with this word
 abbrev pub call_named : List ℕ → Option CallForm
@@ -323,8 +334,9 @@ note_form (Asked (Hold station tid)) = form.Hold
 note_form (Asked (Begin station tid window)) = form.Begin
 note_form (Asked (Free station tid)) = form.Free
 note_form (Asked (Cease station tid)) = form.Cease
-note_form (Asked (Group ask)) = form_of_group ask
+note_form (Asked (Group call)) = form_of_group call.ask
 note_form (Asked (Service ask)) = form_of_service ask
+note_form (Asked (Bss station bss)) = form.Bss
 
 -- the values of a rate's arguments after the station
 abbrev pub values_of_rate : AskedRate → List Value
@@ -346,7 +358,7 @@ abbrev pub values_of_frames : Option ℕ → List Value
 values_of_frames None = []
 values_of_frames (Some frames) = value.Frames ∷ value.Long frames ∷ []
 
--- the values of the arguments of a call about group frames, in order
+-- the values of the arguments of a call about group frames before its BSS
 abbrev pub values_of_group : GroupAsk → List Value
 values_of_group (group.Accept len) = value.Short len ∷ []
 values_of_group group.Beacon = []
@@ -397,8 +409,9 @@ note_values (Asked (Begin station tid window)) =
     value.Short station ∷ value.Octet tid ∷ value.Short window ∷ []
 note_values (Asked (Free station tid)) = value.Short station ∷ value.Octet tid ∷ []
 note_values (Asked (Cease station tid)) = value.Short station ∷ value.Octet tid ∷ []
-note_values (Asked (Group ask)) = values_of_group ask
+note_values (Asked (Group call)) = values_of_group call.ask ++ value.Octet call.bss ∷ []
 note_values (Asked (Service ask)) = values_of_service ask
+note_values (Asked (Bss station bss)) = value.Short station ∷ value.Octet bss ∷ []
 
 -- the Enqueue call with these values; None if they are no values of its arguments
 abbrev pub enqueued : List Value → Option Note
@@ -413,6 +426,10 @@ limits frames air = record { frames = frames; air = air }
 -- the limits of a Pull that gives none
 abbrev pub no_limits : Limits
 no_limits = limits None None
+
+-- a call about the group frames of a BSS
+abbrev pub in_bss : ℕ → GroupAsk → GroupCall
+in_bss bss ask = record { bss = bss; ask = ask }
 
 -- the call without a frame that has this form and these values
 abbrev pub ask_of : CallForm → List Value → Option Ask
@@ -463,14 +480,15 @@ ask_of form.Begin (value.Short station ∷ value.Octet tid ∷ value.Short windo
     Some (Begin station tid window)
 ask_of form.Free (value.Short station ∷ value.Octet tid ∷ []) = Some (Free station tid)
 ask_of form.Cease (value.Short station ∷ value.Octet tid ∷ []) = Some (Cease station tid)
-ask_of form.Group (value.Short len ∷ []) = Some (Group (group.Accept len))
-ask_of form.Beacon [] = Some (Group group.Beacon)
-ask_of form.Gpull [] = Some (Group group.Pull)
-ask_of form.Gdone [] = Some (Group group.Done)
+ask_of form.Group (value.Short len ∷ value.Octet bss ∷ []) = Some (Group (in_bss bss (group.Accept len)))
+ask_of form.Beacon (value.Octet bss ∷ []) = Some (Group (in_bss bss group.Beacon))
+ask_of form.Gpull (value.Octet bss ∷ []) = Some (Group (in_bss bss group.Pull))
+ask_of form.Gdone (value.Octet bss ∷ []) = Some (Group (in_bss bss group.Done))
 ask_of form.Apsd (value.Short station ∷ value.Octet classes ∷ value.Octet most ∷ []) =
     Some (Service (service.Set station classes most))
 ask_of form.Trigger (value.Short station ∷ []) = Some (Service (service.Trigger station))
 ask_of form.Eosp (value.Short station ∷ []) = Some (Service (service.End station))
+ask_of form.Bss (value.Short station ∷ value.Octet bss ∷ []) = Some (Bss station bss)
 ask_of _ _ = None
 
 -- the call of a form with these values; None if they are no values of its arguments
@@ -488,6 +506,7 @@ IsOfKind kind.Long (value.Long n) = n < 2 ^ 32
 IsOfKind kind.Exchange (value.Exchange n) = n < 2 ^ 32
 IsOfKind kind.Length (value.Short n) = (1 ≤ n) × (n ≤ greatest_body)
 IsOfKind kind.Weight (value.Octet n) = n < 2 ^ 8
+IsOfKind kind.Bss (value.Octet n) = n < 2 ^ 8
 IsOfKind kind.Class (value.Class c) = Unit {0}
 IsOfKind kind.Format (value.Format f) = Unit {0}
 IsOfKind kind.Guard (value.Guard short) = Unit {0}

@@ -4,7 +4,7 @@ use Rattle.std.specs.Prelude.{ℕ, ◌==◌, ◌≤◌, nat_le, Bool, false, ◌
 use Rattle.std.specs.Str.{bytes_eq}
 use Rattle.wf_frame.specs.declared.settings.Config.{Config}
 use Rattle.wf_frame.specs.declared.settings.Field.{Field}
-use Rattle.wf_frame.specs.declared.settings.Field.TheVariants.{Stations, Flows, Limit, Room, FlowQuantum, Quantum, Inflight, Attempts, Agg, Cap, Sleeping, Calls, Charge, Debt, AqlTotal, KeepOrder, CodelReset, Aql, Pending, Overhead, CapVi, CapVo, Answers, Credits, Legacy, Period, Buffered}
+use Rattle.wf_frame.specs.declared.settings.Field.TheVariants.{Stations, Flows, Limit, Room, FlowQuantum, Quantum, Inflight, Attempts, Agg, Cap, Sleeping, Calls, Charge, Debt, AqlTotal, KeepOrder, CodelReset, Aql, Pending, Overhead, CapVi, CapVo, Answers, Credits, Legacy, Period, Buffered, Bsses}
 
 -- a row: the number of a setting, its word, its least value and its greatest value
 pub record Row : Type 0 where
@@ -47,6 +47,7 @@ setting_row Credits = row 24 (codes "credits") 0 1
 setting_row Legacy = row 25 (codes "legacy") 0 2
 setting_row Period = row 26 (codes "period") 0 255
 setting_row Buffered = row 27 (codes "buffered") 0 65535
+setting_row Bsses = row 28 (codes "bsses") 0 16
 
 -- the standard settings: those of a head that sets none
 abbrev pub standard : Config
@@ -78,6 +79,7 @@ standard = record {
   legacy = 0;
   period = 0;
   buffered = 0;
+  bsses = 0;
 }
 
 -- the settings for devices: the standard ones with these values
@@ -98,7 +100,7 @@ device = record standard {
 abbrev pub fields : List Field
 fields = Stations ∷ Flows ∷ Limit ∷ Room ∷ FlowQuantum ∷ Quantum ∷ Inflight ∷ Attempts ∷ Agg ∷ Cap ∷ Sleeping
     ∷ Calls ∷ Charge ∷ Debt ∷ AqlTotal ∷ KeepOrder ∷ CodelReset ∷ Aql ∷ Pending ∷ Overhead ∷ CapVi ∷ CapVo
-    ∷ Answers ∷ Credits ∷ Legacy ∷ Period ∷ Buffered ∷ []
+    ∷ Answers ∷ Credits ∷ Legacy ∷ Period ∷ Buffered ∷ Bsses ∷ []
 
 -- end rows
 
@@ -157,6 +159,7 @@ value_of c Credits = c.credits
 value_of c Legacy = c.legacy
 value_of c Period = c.period
 value_of c Buffered = c.buffered
+value_of c Bsses = c.bsses
 
 -- the settings with one of them set to a value
 abbrev pub with_value : Config → Field → ℕ → Config
@@ -187,6 +190,7 @@ with_value c Credits value = record c { credits = value }
 with_value c Legacy value = record c { legacy = value }
 with_value c Period value = record c { period = value }
 with_value c Buffered value = record c { buffered = value }
+with_value c Bsses value = record c { bsses = value }
 
 -- end values
 
@@ -240,5 +244,6 @@ pub record IsInRange (config : Config) : Type 0 where
   pub legacy : (0 ≤ config.legacy) × (config.legacy ≤ 2)
   pub period : (0 ≤ config.period) × (config.period ≤ 255)
   pub buffered : (0 ≤ config.buffered) × (config.buffered ≤ 65535)
+  pub bsses : (0 ≤ config.bsses) × (config.bsses ≤ 16)
 
 -- end ranges

@@ -90,13 +90,14 @@ pub enum CallForm {
     Free,
     /// The agreement of a TID ends, and the TID is held.
     Cease,
-    /// A frame for a group of stations is accepted; LENGTH is the length of its body in octets.
+    /// A frame for a group of stations of the BSS B (0 if it is left out) is accepted; LENGTH is the length
+    /// of its body in octets.
     Group,
-    /// A beacon goes out.
+    /// A beacon of the BSS B (0 if it is left out) goes out.
     Beacon,
-    /// The driver asks for the next group frame.
+    /// The driver asks for the next group frame of the BSS B (0 if it is left out).
     Gpull,
-    /// The transmission of a group frame ended.
+    /// The transmission of a group frame of the BSS B (0 if it is left out) ended.
     Gdone,
     /// The station has these delivery-enabled classes from now on: CLASSES is the sum of 1 for bk, 2 for be,
     /// 4 for vi and 8 for vo; MAX is the most frames of a service period, 0 for no limit.
@@ -105,6 +106,8 @@ pub enum CallForm {
     Trigger,
     /// The device ended a service period by a frame without data.
     Eosp,
+    /// A station is of the BSS B from now on.
+    Bss,
 }
 
 /// The format of a rate, if its line has a word for it. A rate of HT has none.
@@ -179,6 +182,10 @@ pub enum Argument {
     Classes,
     /// The most frames of a service period.
     Most,
+    /// The BSS of group frames.
+    Bss,
+    /// The BSS that a station gets.
+    NewBss,
 }
 
 /// The kind of an argument: which values it may have.
@@ -196,6 +203,8 @@ pub enum Arg {
     Length,
     /// A weight, 0 to 255, which is 1 if it is left out.
     Weight,
+    /// A BSS, 0 to 255, which is 0 if it is left out.
+    Bss,
     /// `bk`, `be`, `vi` or `vo`.
     Class,
     /// `vht`, `he`, `ofdm` or `dsss`.
@@ -248,7 +257,7 @@ impl Default for Value {
     }
 }
 
-const CALLS: [CallForm; 34] = [
+const CALLS: [CallForm; 35] = [
     CallForm::Join,
     CallForm::Leave,
     CallForm::Rate,
@@ -283,9 +292,10 @@ const CALLS: [CallForm; 34] = [
     CallForm::Apsd,
     CallForm::Trigger,
     CallForm::Eosp,
+    CallForm::Bss,
 ];
 
-const FORMS: [CallForm; 42] = [
+const FORMS: [CallForm; 43] = [
     CallForm::Join,
     CallForm::Leave,
     CallForm::Rate,
@@ -328,6 +338,7 @@ const FORMS: [CallForm; 42] = [
     CallForm::Apsd,
     CallForm::Trigger,
     CallForm::Eosp,
+    CallForm::Bss,
 ];
 
 impl RateFormat {
@@ -364,7 +375,7 @@ impl CallForm {
         ensures number { result.0 ≡ form_number self }
         ensures word { result.1.now ≡ call_word self }
         ensures line { result.2.now ≡ form_line self }
-        ensures range { result.0 < 34 }
+        ensures range { result.0 < 35 }
         ensures short { length result.1.now ≤ 7 }
     {
         match self {
@@ -377,10 +388,8 @@ impl CallForm {
             CallForm::RateDsss => (2, b"rate", b"rate S dsss HALF_MBIT"),
             CallForm::Tick => (3, b"tick", b"tick MICROSECONDS"),
             CallForm::Enqueue => (4, b"enq", b"enq S TID FLOW LENGTH"),
-            CallForm::Pull => (5, b"pull", b"pull CLASS"),
-            CallForm::PullFrames => (5, b"pull", b"pull CLASS frames N"),
-            CallForm::PullAir => (5, b"pull", b"pull CLASS air MICROSECONDS"),
-            CallForm::PullLimited => (5, b"pull", b"pull CLASS frames N air MICROSECONDS"),
+            CallForm::Pull | CallForm::PullFrames | CallForm::PullAir | CallForm::PullLimited =>
+                self.pull_row(),
             CallForm::Arrive => (6, b"arrive", b"arrive EXCHANGE INDEX"),
             CallForm::Answer => (7, b"answer", b"answer EXCHANGE"),
             CallForm::Done => (8, b"done", b"done EXCHANGE HEARD"),
@@ -402,10 +411,30 @@ impl CallForm {
             CallForm::Hold | CallForm::Begin | CallForm::Free | CallForm::Cease => {
                 self.agreement_row()
             }
-            CallForm::Group | CallForm::Beacon | CallForm::Gpull | CallForm::Gdone => {
-                self.group_row()
-            }
+            CallForm::Group
+            | CallForm::Beacon
+            | CallForm::Gpull
+            | CallForm::Gdone
+            | CallForm::Bss => self.group_row(),
             CallForm::Apsd | CallForm::Trigger | CallForm::Eosp => self.service_row(),
+        }
+    }
+
+    // The rows of a pull.
+    fn pull_row(self) -> (u8, &'static [u8], &'static [u8])
+        requires { form_number self ≡ 5 }
+        ensures number { result.0 ≡ form_number self }
+        ensures word { result.1.now ≡ call_word self }
+        ensures line { result.2.now ≡ form_line self }
+        ensures range { result.0 < 35 }
+        ensures short { length result.1.now ≤ 7 }
+    {
+        match self {
+            CallForm::Pull => (5, b"pull", b"pull CLASS"),
+            CallForm::PullFrames => (5, b"pull", b"pull CLASS frames N"),
+            CallForm::PullAir => (5, b"pull", b"pull CLASS air MICROSECONDS"),
+            CallForm::PullLimited => (5, b"pull", b"pull CLASS frames N air MICROSECONDS"),
+            _ => NO_ROW,
         }
     }
 
@@ -415,7 +444,7 @@ impl CallForm {
         ensures number { result.0 ≡ form_number self }
         ensures word { result.1.now ≡ call_word self }
         ensures line { result.2.now ≡ form_line self }
-        ensures range { result.0 < 34 }
+        ensures range { result.0 < 35 }
         ensures short { length result.1.now ≤ 7 }
     {
         match self {
@@ -427,20 +456,21 @@ impl CallForm {
         }
     }
 
-    // The rows of the calls about group frames.
+    // The rows of the calls about a BSS.
     fn group_row(self) -> (u8, &'static [u8], &'static [u8])
         requires { IsOfGroup self }
         ensures number { result.0 ≡ form_number self }
         ensures word { result.1.now ≡ call_word self }
         ensures line { result.2.now ≡ form_line self }
-        ensures range { result.0 < 34 }
+        ensures range { result.0 < 35 }
         ensures short { length result.1.now ≤ 7 }
     {
         match self {
-            CallForm::Group => (27, b"group", b"group LENGTH"),
-            CallForm::Beacon => (28, b"beacon", b"beacon"),
-            CallForm::Gpull => (29, b"gpull", b"gpull"),
-            CallForm::Gdone => (30, b"gdone", b"gdone"),
+            CallForm::Group => (27, b"group", b"group LENGTH [B]"),
+            CallForm::Beacon => (28, b"beacon", b"beacon [B]"),
+            CallForm::Gpull => (29, b"gpull", b"gpull [B]"),
+            CallForm::Gdone => (30, b"gdone", b"gdone [B]"),
+            CallForm::Bss => (34, b"bss", b"bss S B"),
             _ => NO_ROW,
         }
     }
@@ -451,7 +481,7 @@ impl CallForm {
         ensures number { result.0 ≡ form_number self }
         ensures word { result.1.now ≡ call_word self }
         ensures line { result.2.now ≡ form_line self }
-        ensures range { result.0 < 34 }
+        ensures range { result.0 < 35 }
         ensures short { length result.1.now ≤ 7 }
     {
         match self {
@@ -463,16 +493,16 @@ impl CallForm {
     }
 
     /// Returns all forms, in the order of the help.
-    pub fn all() -> [CallForm; 42]
+    pub fn all() -> [CallForm; 43]
         ensures { result ≡ forms }
     {
         FORMS
     }
 
-    /// Returns the number of its call in C: 0 to 33.
+    /// Returns the number of its call in C: 0 to 34.
     pub fn number(self) -> u8
         ensures number { result ≡ form_number self }
-        ensures range { result < 34 }
+        ensures range { result < 35 }
     {
         self.row().0
     }
@@ -554,8 +584,10 @@ impl CallForm {
             | CallForm::Eosp => &[Argument::Station],
             CallForm::Apsd => &[Argument::Station, Argument::Classes, Argument::Most],
             CallForm::Rx => &[Argument::Station, Argument::Class, Argument::Air],
-            CallForm::Reap | CallForm::Beacon | CallForm::Gpull | CallForm::Gdone => &[],
-            CallForm::Group => &[Argument::Length],
+            CallForm::Reap => &[],
+            CallForm::Group => &[Argument::Length, Argument::Bss],
+            CallForm::Beacon | CallForm::Gpull | CallForm::Gdone => &[Argument::Bss],
+            CallForm::Bss => &[Argument::Station, Argument::NewBss],
             CallForm::Ampdu => &[Argument::Station, Argument::Octets],
             CallForm::Flush | CallForm::Hold | CallForm::Free | CallForm::Cease => {
                 &[Argument::Station, Argument::Tid]
@@ -647,10 +679,12 @@ impl Argument {
             | Argument::NewWeight
             | Argument::Tid
             | Argument::Classes
-            | Argument::Most => Arg::Octet,
+            | Argument::Most
+            | Argument::NewBss => Arg::Octet,
             Argument::By | Argument::Flow | Argument::Air | Argument::Octets => Arg::Long,
             Argument::Exchange => Arg::Exchange,
             Argument::Weight => Arg::Weight,
+            Argument::Bss => Arg::Bss,
             Argument::Length => Arg::Length,
             Argument::Class => Arg::Class,
             Argument::Format => Arg::Format,
@@ -677,6 +711,7 @@ impl Arg {
     {
         match self {
             Arg::Weight => Some(Value::Octet(1)),
+            Arg::Bss => Some(Value::Octet(0)),
             _ => None,
         }
     }

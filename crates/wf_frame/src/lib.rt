@@ -39,7 +39,7 @@ pub use classes::{Cause, Class, Fate, tid_number};
 pub use frames::{Frame, GREATEST_BODY, source_address};
 pub use lists::{FixedList, Ids, Pairs};
 pub use notes::{
-    Ask, AskedRate, GroupAsk, GroupReply, Limits, Note, Part, Refusal, ReplyNote, ServiceAsk,
-    ServiceReply,
+    Ask, AskedRate, GroupAsk, GroupCall, GroupReply, Limits, Note, Part, Refusal, ReplyNote,
+    ServiceAsk, ServiceReply,
 };
 pub use settings::{Config, Field};

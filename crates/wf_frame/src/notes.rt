@@ -57,7 +57,7 @@ impl Limits {
     };
 }
 
-/// A call that brings no frame for a station: one of twenty-eight. An argument outside its given range is
+/// A call that brings no frame for a station: one of twenty-nine. An argument outside its given range is
 /// refused.
 #[derive(Clone, Copy, Debug, PartialEq, Eq)]
 pub enum Ask {
@@ -199,10 +199,22 @@ pub enum Ask {
         station: u16,
         tid: u8,
     },
-    /// A call about group frames.
-    Group(GroupAsk),
+    /// A call about the group frames of a BSS.
+    Group(GroupCall),
     /// A call about the service periods of a station.
     Service(ServiceAsk),
+    /// A station is of this BSS from now on, 0 to `bsses` - 1.
+    Bss {
+        station: u16,
+        bss: u8,
+    },
+}
+
+/// A call about the group frames and the beacons of this BSS, 0 to `bsses` - 1. Each BSS has its own.
+#[derive(Clone, Copy, Debug, PartialEq, Eq)]
+pub struct GroupCall {
+    pub bss: u8,
+    pub ask: GroupAsk,
 }
 
 /// A call about group frames: data frames whose first address is the address of a group. They are apart from
@@ -312,7 +324,7 @@ pub enum Refusal {
     Arrived,
     /// There is nothing to answer, to send, to reap or to end.
     Nothing,
-    /// `sleep`: the station is asleep already; `apsd`: the station is asleep.
+    /// `sleep`: the station is asleep already; `apsd` and `bss`: the station is asleep.
     Asleep,
     /// The station is awake.
     Awake,
@@ -355,6 +367,8 @@ pub enum Refusal {
     Flying,
     /// The delivery-enabled classes are not 0 to 15.
     BadClasses,
+    /// The BSS number is not below `bsses`, or not 0 if `bsses` is 0.
+    BadBss,
     // end refusals
 }
 

@@ -6,7 +6,7 @@ ghost use Rattle.wf_frame.specs.Refusals.{refusal_number, refusal_word, number_t
 use crate::Refusal;
 
 // The refusals by their numbers. A number that follows the word is 0.
-const REFUSALS: [Refusal; 42] = [
+const REFUSALS: [Refusal; 43] = [
     // begin list: tools/tables writes these lines
     Refusal::BadStation,
     Refusal::BadWindow,
@@ -50,6 +50,7 @@ const REFUSALS: [Refusal; 42] = [
     Refusal::Buffered { queued: 0 },
     Refusal::Flying,
     Refusal::BadClasses,
+    Refusal::BadBss,
     // end list
 ];
 
@@ -58,7 +59,7 @@ impl Refusal {
     fn row(self) -> (u8, &'static [u8])
         ensures number { result.0 ≡ refusal_number self }
         ensures word { result.1.now ≡ refusal_word self }
-        ensures range { (0 < result.0) × (result.0 ≤ 42) }
+        ensures range { (0 < result.0) × (result.0 ≤ 43) }
         ensures short { length result.1.now ≤ 12 }
     {
         match self {
@@ -105,14 +106,15 @@ impl Refusal {
             Refusal::Buffered { .. } => (40, b"buffered"),
             Refusal::Flying => (41, b"flying"),
             Refusal::BadClasses => (42, b"bad-classes"),
+            Refusal::BadBss => (43, b"bad-bss"),
             // end rows
         }
     }
 
-    /// Returns the number of the refusal in C: 1 to 42.
+    /// Returns the number of the refusal in C: 1 to 43.
     pub fn number(self) -> u8
         ensures number { result ≡ refusal_number self }
-        ensures range { (0 < result) × (result ≤ 42) }
+        ensures range { (0 < result) × (result ≤ 43) }
     {
         self.row().0
     }

@@ -67,6 +67,8 @@ pub struct Config {
     pub period: u32,
     /// The most group frames that are queued. With 0 none is accepted.
     pub buffered: u32,
+    /// The number of BSSs: their numbers are 0 to below this. 0 means 1.
+    pub bsses: u32,
     // end fields
 }
 
@@ -130,11 +132,13 @@ pub enum Field {
     Period,
     /// Group frames that may be queued; with 0 none is accepted.
     Buffered,
+    /// BSSs, which are numbered 0 to `bsses` - 1; 0 means 1.
+    Bsses,
     // end variants
 }
 
 // The settings, in the order in which they are checked.
-const FIELDS: [Field; 27] = [
+const FIELDS: [Field; 28] = [
     // begin list: tools/tables writes these lines
     Field::Stations,
     Field::Flows,
@@ -163,12 +167,13 @@ const FIELDS: [Field; 27] = [
     Field::Legacy,
     Field::Period,
     Field::Buffered,
+    Field::Bsses,
     // end list
 ];
 
 impl Field {
     /// Returns the settings, in the order in which they are checked.
-    pub fn all() -> [Field; 27]
+    pub fn all() -> [Field; 28]
         ensures { result ≡ fields }
     {
         FIELDS
@@ -180,7 +185,7 @@ impl Field {
         ensures word { result.1.now ≡ setting_word self }
         ensures least { result.2 ≡ lowest_of self }
         ensures greatest { result.3 ≡ greatest_of self }
-        ensures numbered { (1 ≤ result.0) × (result.0 ≤ 27) }
+        ensures numbered { (1 ≤ result.0) × (result.0 ≤ 28) }
         ensures short { length result.1.now ≤ 12 }
     {
         match self {
@@ -212,14 +217,15 @@ impl Field {
             Field::Legacy => (25, b"legacy", 0, 2),
             Field::Period => (26, b"period", 0, 255),
             Field::Buffered => (27, b"buffered", 0, 65_535),
+            Field::Bsses => (28, b"bsses", 0, 16),
             // end rows
         }
     }
 
-    /// Returns the number of the setting in C: 1 to 27.
+    /// Returns the number of the setting in C: 1 to 28.
     pub fn number(self) -> u8
         ensures number { result ≡ setting_number self }
-        ensures range { (1 ≤ result) × (result ≤ 27) }
+        ensures range { (1 ≤ result) × (result ≤ 28) }
     {
         self.row().0
     }
@@ -306,6 +312,7 @@ impl Field {
             Field::Legacy => config.legacy,
             Field::Period => config.period,
             Field::Buffered => config.buffered,
+            Field::Bsses => config.bsses,
             // end value
         }
     }
@@ -343,6 +350,7 @@ impl Field {
             Field::Legacy => config.legacy = value,
             Field::Period => config.period = value,
             Field::Buffered => config.buffered = value,
+            Field::Bsses => config.bsses = value,
             // end set
         }
     }
@@ -382,6 +390,7 @@ impl Config {
             legacy: 0,
             period: 0,
             buffered: 0,
+            bsses: 0,
             // end standard
         }
     }
@@ -421,6 +430,7 @@ impl Config {
             legacy: 0,
             period: 0,
             buffered: 0,
+            bsses: 0,
             // end device
         }
     }

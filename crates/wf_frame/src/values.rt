@@ -3,12 +3,12 @@
 ghost use Rattle.std.specs.Prelude.{◌≡◌, ◌≤◌, [], ◌∷◌, length, Some};
 ghost use Rattle.wf_frame.specs.declared.notes.Note.TheVariants.{Asked};
 ghost use Rattle.wf_frame.specs.declared.notes.Ask.TheVariants.{Join, Rate, Pull, Arrive, Done, Group, Service};
-ghost use Rattle.wf_frame.specs.declared.calls.Argument.TheVariants.{Station, Exchange, Index, Tid};
-ghost use Rattle.wf_frame.specs.Calls.{note_form, form_of_rate, form_of_limits, limits, form_of_group, values_of_group, form_of_service, values_of_service, note_values, note_made, enqueued, ask_of, arguments_of, IsPrintable, NumbersAreInRange};
+ghost use Rattle.wf_frame.specs.declared.calls.Argument.TheVariants.{Station, Exchange, Index, Tid, Bss};
+ghost use Rattle.wf_frame.specs.Calls.{note_form, form_of_rate, form_of_limits, limits, form_of_group, in_bss, form_of_service, values_of_service, note_values, note_made, enqueued, ask_of, arguments_of, IsPrintable, NumbersAreInRange};
 
 use crate::Class;
 use crate::calls::{CallForm, RateFormat, Value};
-use crate::notes::{Ask, AskedRate, GroupAsk, Limits, Note, ServiceAsk};
+use crate::notes::{Ask, AskedRate, GroupAsk, GroupCall, Limits, Note, ServiceAsk};
 use arrayvec::ArrayVec;
 
 impl Note {
@@ -90,8 +90,9 @@ impl Ask {
             Ask::Begin { .. } => CallForm::Begin,
             Ask::Free { .. } => CallForm::Free,
             Ask::Cease { .. } => CallForm::Cease,
-            Ask::Group(ask) => ask.form(),
+            Ask::Group(call) => call.ask.form(),
             Ask::Service(ask) => ask.form(),
+            Ask::Bss { .. } => CallForm::Bss,
         }
     }
 
@@ -171,8 +172,9 @@ impl Ask {
             Ask::Weight { station, weight } => {
                 listed(&[Value::Short(station), Value::Octet(weight)])
             }
-            Ask::Group(ask) => ask.values(),
+            Ask::Group(call) => call.values(),
             Ask::Service(ask) => ask.values(),
+            Ask::Bss { station, bss } => { listed(&[Value::Short(station), Value::Octet(bss)]) }
         }
     }
 }
@@ -189,15 +191,18 @@ impl GroupAsk {
             GroupAsk::Done => CallForm::Gdone,
         }
     }
+}
 
+impl GroupCall {
     // The values of its arguments, in order.
     fn values(self) -> ArrayVec<Value, 6>
-        ensures values { result.items ≡ values_of_group self }
+        ensures values { result.items ≡ note_values (Asked (Group self)) }
         ensures range { IsPrintable (Asked (Group self)) → NumbersAreInRange (Asked (Group self)) }
     {
-        match self {
-            GroupAsk::Accept { len } => listed(&[Value::Short(len)]),
-            GroupAsk::Beacon | GroupAsk::Pull | GroupAsk::Done => listed(&[]),
+        let bss = Value::Octet(self.bss);
+        match self.ask {
+            GroupAsk::Accept { len } => listed(&[Value::Short(len), bss]),
+            GroupAsk::Beacon | GroupAsk::Pull | GroupAsk::Done => listed(&[bss]),
         }
     }
 }
@@ -448,10 +453,10 @@ fn ask_made(form: CallForm, values: &[Value]) -> Option<Ask>
         CallForm::Plain => plain(values),
         CallForm::Begin => begin(values),
         CallForm::Group => group(values),
+        CallForm::Beacon | CallForm::Gpull | CallForm::Gdone => of_bss(form, values),
         CallForm::Apsd => apsd(values),
-        CallForm::Reap | CallForm::Beacon | CallForm::Gpull | CallForm::Gdone => {
-            without_values(form, values)
-        }
+        CallForm::Reap => reap(values),
+        CallForm::Bss => bss(values),
     }
 }
 
@@ -820,10 +825,43 @@ fn begin(values: &[Value]) -> Option<Ask>
 fn group(values: &[Value]) -> Option<Ask>
     ensures { result ≡ ask_of CallForm.Group values.now }
 {
-    let [Value::Short(len)] = *values else {
+    let [Value::Short(len), Value::Octet(bss)] = *values else {
         return None;
     };
-    Some(Ask::Group(GroupAsk::Accept { len }))
+    Some(about(bss, GroupAsk::Accept { len }))
+}
+
+// A call about the group frames of a BSS.
+fn about(bss: u8, ask: GroupAsk) -> Ask
+    ensures { result ≡ Group (in_bss bss ask) }
+{
+    Ask::Group(GroupCall { bss, ask })
+}
+
+// The call with these values whose one argument is a BSS.
+fn of_bss(form: CallForm, values: &[Value]) -> Option<Ask>
+    requires { arguments_of form ≡ Bss ∷ [] }
+    ensures { result ≡ ask_of form values.now }
+{
+    let [Value::Octet(bss)] = *values else {
+        return None;
+    };
+    match form {
+        CallForm::Beacon => Some(about(bss, GroupAsk::Beacon)),
+        CallForm::Gpull => Some(about(bss, GroupAsk::Pull)),
+        CallForm::Gdone => Some(about(bss, GroupAsk::Done)),
+        _ => None,
+    }
+}
+
+// The Bss call with these values.
+fn bss(values: &[Value]) -> Option<Ask>
+    ensures { result ≡ ask_of CallForm.Bss values.now }
+{
+    let [Value::Short(station), Value::Octet(bss)] = *values else {
+        return None;
+    };
+    Some(Ask::Bss { station, bss })
 }
 
 // The call with these values that sets the delivery-enabled classes of a station.
@@ -845,21 +883,14 @@ fn apsd(values: &[Value]) -> Option<Ask>
     }))
 }
 
-// The call of this form, which has no values.
-fn without_values(form: CallForm, values: &[Value]) -> Option<Ask>
-    requires { arguments_of form ≡ [] }
-    ensures { result ≡ ask_of form values.now }
+// The Reap call with these values.
+fn reap(values: &[Value]) -> Option<Ask>
+    ensures { result ≡ ask_of CallForm.Reap values.now }
 {
     let [] = values else {
         return None;
     };
-    match form {
-        CallForm::Reap => Some(Ask::Reap),
-        CallForm::Beacon => Some(Ask::Group(GroupAsk::Beacon)),
-        CallForm::Gpull => Some(Ask::Group(GroupAsk::Pull)),
-        CallForm::Gdone => Some(Ask::Group(GroupAsk::Done)),
-        _ => None,
-    }
+    Some(Ask::Reap)
 }
 
 // The Done call with these values, which include no airtime.
