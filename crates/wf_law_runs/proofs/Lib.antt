@@ -59,7 +59,7 @@ mod Tries
 mod Rotations
 mod Unsettled
 pub mod Groups
-pub mod Services
+mod Services
 mod Orders
 mod Witnesses
 pub mod AllLaws

@@ -5,6 +5,7 @@ use Rattle.wf_frame.specs.Classes.{greatest_classes}
 use Rattle.wf_def_air.specs.Airtime.{IsRate, IsAllowed}
 use Rattle.wf_def_codel.specs.Codel.{Codel, greatest_count}
 use Rattle.wf_def_lists.specs.Bounds.{greatest_window, greatest_exponent, greatest_weight, least_ampdu, greatest_ampdu}
+use Rattle.wf_def_world.specs.Group.{bss_count}
 use Rattle.wf_def_world.specs.World.{World, station, session, receiver, queue, is_live}
 use Rattle.wf_def_world.specs.Run.{Entry}
 use Rattle.wf_def_world.specs.Stretches.{world_at}
@@ -25,6 +26,8 @@ pub record IsStation (config : Config) (w : World) (s : ℕ) : Type 0 where
   pub allowed : IsAllowed config.legacy (station w s).rate
   -- A stated length of its aggregates is one that a call may state.
   pub ampdu : IfSome (station w s).ampdu (λ n. (least_ampdu ≤ n) × (n ≤ greatest_ampdu))
+  -- Its BSS is one of the BSSs.
+  pub bss : (station w s).bss < bss_count config.bsses
   -- Only a sleeping station has a credit.
   pub credit : IfSome (station w s).credit (λ _. (station w s).asleep ≡ true)
   -- The set of its delivery-enabled classes, and the frames that are left of its service period.

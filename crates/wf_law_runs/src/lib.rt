@@ -159,9 +159,9 @@ pub fn limit_law()
 {}
 
 /// After every entry, the values of a live station are in their ranges: its number, weight, rate, exponent,
-/// stated length of aggregates and windows. The setting `legacy` allows its rate. Only a sleeping station has
-/// a credit or an open service period, and no more frames are left of a service period than its limit.
-/// CoDel's count is at least 1 while it drops, and CoDel's counts fit 32 bits (specs/Ranges).
+/// stated length of aggregates, BSS and windows. The setting `legacy` allows its rate. Only a sleeping
+/// station has a credit or an open service period, and no more frames are left of a service period than its
+/// limit. CoDel's count is at least 1 while it drops, and CoDel's counts fit 32 bits (specs/Ranges).
 pub fn range_law()
     ensures { (config : Config) → (history : List Entry) → IsInRange config → RangeLaw config history }
 {}
@@ -312,39 +312,42 @@ pub fn delay_law()
     ensures { (config : Config) → (history : List Entry) → IsInRange config → DelayLaw config history }
 {}
 
-/// A call about group frames or a beacon changes nothing but the state of group frames: no share, no rotation
-/// and no session. Every other call leaves that state as it is (specs/Groups).
+/// A call about the group frames or a beacon of a BSS changes nothing but the state of the group frames of
+/// that BSS: no share, no rotation and no session. Every other call leaves that state as it is
+/// (specs/Groups).
 pub fn group_apart_law()
     ensures { GroupApartLaw }
 {}
 
-/// After every entry, each group frame that was accepted was sent, is on the air or is queued. At most as
-/// many are queued as the setting `buffered`, and the DTIM count is below the DTIM period (specs/Groups).
+/// After every entry, each group frame of a BSS that was accepted was sent, is on the air or is queued. At
+/// most as many are queued in a BSS as the setting `buffered`, and its DTIM count is below the DTIM period
+/// (specs/Groups).
 pub fn group_count_law()
     ensures { (config : Config) → (history : List Entry) → GroupCountLaw config history }
 {}
 
-/// Group frames are accepted, sent and ended in the order of their ids 0, 1, 2 .., each at most once. Their
-/// sequence numbers count on, modulo 4096, with each beacon and each group frame (specs/Groups; IEEE
-/// 802.11-2012, 9.3.2.10).
+/// The group frames of a BSS are accepted, sent and ended in the order of their ids 0, 1, 2 .., each at most
+/// once. Their sequence numbers count on, modulo 4096, with each beacon and each group frame of the BSS
+/// (specs/Groups; IEEE 802.11-2012, 9.3.2.10).
 pub fn group_order_law()
     ensures { (config : Config) → (history : List Entry) → GroupOrderLaw config history }
 {}
 
-/// Each group frame that is sent while a station sleeps was accepted before the latest beacon. That was a
-/// DTIM beacon, and announced group frames (specs/Groups; IEEE 802.11-2012, 10.2.1.4).
+/// Each group frame of a BSS that is sent while a station of the BSS sleeps was accepted before the latest
+/// beacon of the BSS. That was a DTIM beacon, and announced group frames (specs/Groups; IEEE 802.11-2012,
+/// 10.2.1.4).
 pub fn dtim_law()
     ensures { (config : Config) → (history : List Entry) → DtimLaw config history }
 {}
 
-/// A beacon announces group frames if, and only if, one may go after it while a station sleeps (specs/Groups;
-/// IEEE 802.11-2012, 8.4.2.7).
+/// A beacon of a BSS announces group frames if, and only if, one of the BSS may go after it while a station
+/// of the BSS sleeps (specs/Groups; IEEE 802.11-2012, 8.4.2.7).
 pub fn announced_law()
     ensures { (config : Config) → (history : List Entry) → AnnouncedLaw config history }
 {}
 
-/// A group frame has the More Data bit if, and only if, a station sleeps and another group frame may go next
-/// (specs/Groups; IEEE 802.11-2012, 8.2.4.1.8).
+/// A group frame of a BSS has the More Data bit if, and only if, a station of the BSS sleeps and another
+/// group frame of the BSS may go next (specs/Groups; IEEE 802.11-2012, 8.2.4.1.8).
 pub fn group_more_law()
     ensures { (config : Config) → (history : List Entry) → GroupMoreLaw config history }
 {}

@@ -32,7 +32,7 @@ pub record Rest : Type 0 where
   pub receivers : ℕ → ℕ → Receiver
   pub modes : ℕ → ℕ → Mode
   pub bounds : Bounds  -- those of the latest pull
-  pub group : GroupState
+  pub groups : List GroupState
 
 abbrev pub rest_of_world : World → Rest
 rest_of_world w = record {
@@ -46,5 +46,5 @@ rest_of_world w = record {
   receivers = λ s. receiver_in (at None w.stations s);
   modes = λ s. mode_in (at None w.stations s);
   bounds = w.bounds;
-  group = w.group;
+  groups = w.groups;
 }

@@ -225,8 +225,8 @@ pub fn agreements_begin_and_end()
 
 /// The flow queues depend on one part of the world only (`flows_part`), so they agree with every world
 /// that has the same part. That part does not depend on the clock, on a station's rate, its stated length
-/// of aggregates, stop, sleep, credit, service period or shares, on modes, sessions, receivers, the rotations
-/// of stations, the bounds of a pull or the open exchanges.
+/// of aggregates, stop, BSS, sleep, credit, service period or shares, on modes, sessions, receivers, the
+/// rotations of stations, the bounds of a pull or the open exchanges.
 pub fn the_rest_does_not_matter()
     ensures same { (v : FlowsValue) (w x : World) → flows_part x ≡ flows_part w → FlowsStandFor v w →
         FlowsStandFor v x }

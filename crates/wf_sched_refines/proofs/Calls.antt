@@ -4,7 +4,7 @@ use Rattle.std.proofs.lemmas.Bool.{leb-false}
 use Rattle.std.proofs.lemmas.Int.{ints}
 use Rattle.wf_frame.specs.declared.settings.Config.{Config}
 use Rattle.wf_frame.specs.declared.classes.Class.{Class}
-use Rattle.wf_frame.specs.declared.notes.Ask.TheVariants.{Join, Offload, Weight, Leave, Rate, Tick, Pull, Arrive, Answer, Done, Sleep, Wake, Poll, Rx, Reap, Ampdu, Stop, Start, Unsent, GiveUp, Flush, Plain, Hold, Begin, Free, Cease, Group, Service}
+use Rattle.wf_frame.specs.declared.notes.Ask.TheVariants.{Join, Offload, Weight, Leave, Rate, Tick, Pull, Arrive, Answer, Done, Sleep, Wake, Poll, Rx, Reap, Ampdu, Stop, Start, Unsent, GiveUp, Flush, Plain, Hold, Begin, Free, Cease, Group, Service, Bss}
 use Rattle.wf_frame.specs.declared.notes.Limits.{Limits}
 use Rattle.wf_frame.specs.declared.notes.Note.{Note}
 use Rattle.wf_frame.specs.declared.notes.Note.TheVariants.{Enqueue, Asked}
@@ -35,7 +35,7 @@ use Rattle.wf_sched_refines.proofs.Members.{join_stands, offload_stands, plain_s
 use Rattle.wf_sched_refines.proofs.Weights.{weight_stands}
 use Rattle.wf_sched_refines.proofs.Listings.{concerned_stands, unconcerned_stands}
 use Rattle.wf_sched_refines.proofs.Picks.{pick_stands}
-use Rattle.wf_sched_refines.proofs.Unchanged.{bounded_leaves, enqueued_leaves, rate_leaves, tick_leaves, arrived_leaves, answered_leaves, slept_leaves, woken_leaves, credited_leaves, reaped_leaves, stated_leaves, stopped_leaves, started_leaves, unsent_leaves, given_up_leaves, flushed_leaves, held_leaves, begun_leaves, freed_leaves, ceased_leaves, grouped_leaves, served_leaves}
+use Rattle.wf_sched_refines.proofs.Unchanged.{bounded_leaves, enqueued_leaves, rate_leaves, tick_leaves, arrived_leaves, answered_leaves, slept_leaves, woken_leaves, credited_leaves, reaped_leaves, stated_leaves, stopped_leaves, started_leaves, unsent_leaves, given_up_leaves, flushed_leaves, held_leaves, begun_leaves, freed_leaves, ceased_leaves, grouped_leaves, served_leaves, moved_leaves}
 use Rattle.wf_sched_refines.proofs.Exchanges.{winner_stands, end_stands}
 
 -- ---- a call that is not refused
@@ -130,6 +130,7 @@ done_stands (Asked (Rx s c air)) v u w rows rises each h k =
 done_stands (Asked Reap) v u w rows rises each h k = to v u _ k (reaped_leaves w w.finished v h)
 done_stands (Asked (Group ask)) v u w rows rises each h k = to v u _ k (grouped_leaves w ask v h)
 done_stands (Asked (Service ask)) v u w rows rises each h k = to v u _ k (served_leaves w ask v h)
+done_stands (Asked (Bss s b)) v u w rows rises each h k = to v u _ k (moved_leaves w s b v h)
 
 concerned_listed : (o : Option ℕ) (u : SchedValue) (w : World) → SchedulerStandsFor u w →
     SchedulerStandsFor (with_concerned w o u) (with_listings_of w o)

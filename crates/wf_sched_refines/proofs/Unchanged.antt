@@ -3,7 +3,7 @@ use Rattle.std.proofs.Common.{◌≡◌, refl, ap, ap₂, sym, ◌∙◌, subst,
 use Rattle.wf_frame.specs.declared.classes.Class.{Class}
 use Rattle.wf_frame.specs.declared.classes.Fate.{Fate}
 use Rattle.wf_frame.specs.declared.notes.AskedRate.{AskedRate}
-use Rattle.wf_frame.specs.declared.notes.GroupAsk.{GroupAsk}
+use Rattle.wf_frame.specs.declared.notes.GroupCall.{GroupCall}
 use Rattle.wf_frame.specs.declared.notes.Note.{Note}
 use Rattle.wf_frame.specs.Classes.{class_number}
 use Rattle.wf_def_lists.specs.Table.{at, put, with_member}
@@ -15,7 +15,7 @@ use Rattle.wf_frame.specs.declared.notes.ServiceAsk.{ServiceAsk}
 use Rattle.wf_def_world.specs.Service.{station_served}
 use Rattle.wf_def_world.specs.FlowQueues.{taken_for_tid, after_queue_flushed, after_queues_flushed}
 use Rattle.wf_def_world.specs.Exchanges.{after_arrival, after_tid_turn, prepared_exchange, aggregate_of, with_failed_finished, with_settled, with_all_settled, caught_up, caught_up_if_plain, after_done, with_spent}
-use Rattle.wf_def_world.specs.Step.{after_tids_left, with_frame, rate_outcome, tick_outcome, enqueue_outcome, arrive_outcome, answer_outcome, sleep_outcome, wake_outcome, poll_outcome, reap_outcome, ampdu_outcome, stop_outcome, start_outcome, unsent_outcome, give_up_outcome, flush_outcome, after_tid_flushed, hold_outcome, begin_outcome, free_outcome, cease_outcome, group_outcome, service_outcome}
+use Rattle.wf_def_world.specs.Step.{after_tids_left, with_frame, rate_outcome, tick_outcome, enqueue_outcome, arrive_outcome, answer_outcome, sleep_outcome, wake_outcome, poll_outcome, reap_outcome, ampdu_outcome, stop_outcome, start_outcome, unsent_outcome, give_up_outcome, flush_outcome, after_tid_flushed, hold_outcome, begin_outcome, free_outcome, cease_outcome, group_outcome, service_outcome, bss_outcome}
 use Rattle.wf_def_lists.specs.Lists.{IsOnce}
 use Rattle.wf_law_rules.proofs.Lemmas.Tables.{at_put_same, at_put_other}
 use Rattle.wf_law_runs.proofs.Deficits.Books.{cases_class, account, core, Account, Books, books, with_account, books_with_station, books_on_queue, books_finish, books_finish_all}
@@ -322,12 +322,15 @@ credited_leaves w s = station_leaves w s _ (record { weight = λ x. refl; defici
 pub reaped_leaves : (w : World) (ids : List ℕ) → LeavesRotas w (reap_outcome w ids).world
 reaped_leaves w ids = leaves_same w _ (books_reaped ids w)
 
-pub grouped_leaves : (w : World) (ask : GroupAsk) → LeavesRotas w (group_outcome w ask).world
+pub grouped_leaves : (w : World) (ask : GroupCall) → LeavesRotas w (group_outcome w ask).world
 grouped_leaves w ask = leaves_same w _ refl
 
 pub served_leaves : (w : World) (ask : ServiceAsk) → LeavesRotas w (service_outcome w ask).world
 served_leaves w ask =
     station_leaves w (station_served ask) _ (record { weight = λ x. refl; deficits = λ x c. refl })
+
+pub moved_leaves : (w : World) (s b : ℕ) → LeavesRotas w (bss_outcome w s b).world
+moved_leaves w s b = station_leaves w s _ (record { weight = λ x. refl; deficits = λ x c. refl })
 
 pub left_tids_leave : (w : World) (s : ℕ) (ts : List ℕ) → LeavesRotas w (after_tids_left w s ts)
 left_tids_leave w s ts = leaves_same w _ (books_left_tids ts w s)

@@ -14,7 +14,7 @@ ghost use Rattle.wf_frame.specs.declared.settings.Config.{Config};
 ghost use Rattle.wf_frame.specs.declared.classes.Class.{Class};
 ghost use Rattle.wf_frame.specs.declared.classes.Fate.{Fate};
 ghost use Rattle.wf_frame.specs.declared.notes.AskedRate.{AskedRate};
-ghost use Rattle.wf_frame.specs.declared.notes.GroupAsk.{GroupAsk};
+ghost use Rattle.wf_frame.specs.declared.notes.GroupCall.{GroupCall};
 ghost use Rattle.wf_frame.specs.declared.notes.ServiceAsk.{ServiceAsk};
 ghost use Rattle.wf_frame.specs.declared.notes.Note.{Note};
 ghost use Rattle.wf_frame.specs.declared.notes.ReplyNote.TheVariants.{Charged};
@@ -32,7 +32,7 @@ ghost use Rattle.wf_def_world.specs.Exchanges.{Prepared, picked_station, after_p
 ghost use Rattle.wf_def_world.specs.Refusals.{refusal};
 ghost use Rattle.wf_def_world.specs.Stretches.{world_at};
 ghost use Rattle.wf_def_world.specs.Run.{Entry};
-ghost use Rattle.wf_def_world.specs.Step.{join_outcome as joined_world, offload_outcome, plain_outcome, weight_outcome, hold_outcome, begin_outcome, free_outcome, cease_outcome, outcome_of, concerned_station, step, after_tids_left, without_listings, leave_outcome, rate_outcome, tick_outcome, with_frame, enqueue_outcome, send_outcome, pull_outcome_for, arrive_outcome, answer_outcome, done_outcome, sleep_outcome, wake_outcome, poll_outcome, rx_outcome, reap_outcome, ampdu_outcome, stop_outcome, start_outcome, unsent_outcome, give_up_outcome, flush_outcome, group_outcome, service_outcome};
+ghost use Rattle.wf_def_world.specs.Step.{join_outcome as joined_world, offload_outcome, plain_outcome, weight_outcome, hold_outcome, begin_outcome, free_outcome, cease_outcome, outcome_of, concerned_station, step, after_tids_left, without_listings, leave_outcome, rate_outcome, tick_outcome, with_frame, enqueue_outcome, send_outcome, pull_outcome_for, arrive_outcome, answer_outcome, done_outcome, sleep_outcome, wake_outcome, poll_outcome, rx_outcome, reap_outcome, ampdu_outcome, stop_outcome, start_outcome, unsent_outcome, give_up_outcome, flush_outcome, group_outcome, service_outcome, bss_outcome};
 ghost use Rattle.wf_law_rules.specs.Renamed.{IsSame};
 ghost use Rattle.wf_law_runs.specs.Windows.{OpenRises, EachOpen};
 ghost use Rattle.wf_rotation.specs.Rotas.{is_ready as entry};
@@ -277,8 +277,9 @@ pub fn a_call_that_leaves_the_turns()
     ensures woken { (w : World) (s : ℕ) → LeavesRotas w (wake_outcome w s).world }
     ensures credited { (w : World) (s : ℕ) → LeavesRotas w (poll_outcome w s).world }
     ensures reaped { (w : World) (ids : List ℕ) → LeavesRotas w (reap_outcome w ids).world }
-    ensures grouped { (w : World) (ask : GroupAsk) → LeavesRotas w (group_outcome w ask).world }
+    ensures grouped { (w : World) (ask : GroupCall) → LeavesRotas w (group_outcome w ask).world }
     ensures served { (w : World) (ask : ServiceAsk) → LeavesRotas w (service_outcome w ask).world }
+    ensures moved { (w : World) (s b : ℕ) → LeavesRotas w (bss_outcome w s b).world }
 {}
 
 /// Both sides still agree after a whole call. A call that is not refused changes the scheduler as

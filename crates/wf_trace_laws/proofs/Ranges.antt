@@ -98,7 +98,7 @@ pub standard_in : IsInRange standard
 standard_in = standard_in_range standard refl
 
 head_in : (ws : List (List ℕ)) (c : Config) → read_head ws ≡ Ok c → IsInRange c
-head_in ws c e = words_in ws (replicate 27 false) standard c standard_in e
+head_in ws c e = words_in ws (replicate 28 false) standard c standard_in e
 
 -- ---- a call
 

@@ -3,7 +3,7 @@
 use Rattle.std.proofs.Common.{ℕ, zero, suc, ◌-◌, ◌==◌, not, Bool, true, false, if◌then◌else◌, List, [], ◌∷◌, length, Option, Some, None}
 use Rattle.wf_frame.specs.declared.classes.Class.{Class}
 use Rattle.wf_frame.specs.declared.classes.Fate.{Fate}
-use Rattle.wf_frame.specs.declared.notes.Ask.TheVariants.{Join, Leave, Rate, Tick, Pull, Arrive, Answer, Done, Sleep, Wake, Poll, Rx, Reap, Ampdu, Stop, Start, Unsent, GiveUp, Flush, Offload, Weight, Plain, Hold, Begin, Free, Cease, Group, Service}
+use Rattle.wf_frame.specs.declared.notes.Ask.TheVariants.{Join, Leave, Rate, Tick, Pull, Arrive, Answer, Done, Sleep, Wake, Poll, Rx, Reap, Ampdu, Stop, Start, Unsent, GiveUp, Flush, Offload, Weight, Plain, Hold, Begin, Free, Cease, Group, Service, Bss}
 use Rattle.wf_frame.specs.declared.notes.Note.{Note}
 use Rattle.wf_frame.specs.declared.notes.Note.TheVariants.{Enqueue, Asked}
 use Rattle.wf_frame.specs.Classes.{all_classes}
@@ -24,10 +24,10 @@ use Rattle.wf_def_world.specs.Service.{station_served}
 pub record Fixed : Type 0 where
   pub clock : ℕ
   pub exchanges : ℕ
-  pub group : GroupState
+  pub groups : List GroupState
 
 abbrev pub fixed : World → Fixed
-fixed w = record { clock = w.clock; exchanges = w.exchanges; group = w.group }
+fixed w = record { clock = w.clock; exchanges = w.exchanges; groups = w.groups }
 
 -- P is a property of them.
 module _ (P : Fixed → Type 0) where
@@ -335,3 +335,4 @@ module _ (P : Fixed → Type 0) where
   kept_done (Asked Reap) w k h = kept_reaped w.finished w h
   kept_done (Asked (Group ask)) w k h = k
   kept_done (Asked (Service ask)) w k h = set_station w (station_served ask) _ h
+  kept_done (Asked (Bss s b)) w k h = set_station w s _ h

@@ -2,7 +2,7 @@
 use Rattle.std.proofs.Common.{◌≡◌, refl, ℕ, zero, suc, ◌-◌, ◌==◌, not, Bool, true, false, if◌then◌else◌, List, [], ◌∷◌, length, Option, Some, None, option_map}
 use Rattle.wf_frame.specs.declared.classes.Class.{Class}
 use Rattle.wf_frame.specs.declared.classes.Fate.{Fate}
-use Rattle.wf_frame.specs.declared.notes.Ask.TheVariants.{Join, Leave, Rate, Tick, Pull, Arrive, Answer, Done, Sleep, Wake, Poll, Rx, Reap, Ampdu, Stop, Start, Unsent, GiveUp, Flush, Offload, Weight, Plain, Hold, Begin, Free, Cease, Group, Service}
+use Rattle.wf_frame.specs.declared.notes.Ask.TheVariants.{Join, Leave, Rate, Tick, Pull, Arrive, Answer, Done, Sleep, Wake, Poll, Rx, Reap, Ampdu, Stop, Start, Unsent, GiveUp, Flush, Offload, Weight, Plain, Hold, Begin, Free, Cease, Group, Service, Bss}
 use Rattle.wf_frame.specs.declared.notes.Note.{Note}
 use Rattle.wf_frame.specs.declared.notes.Note.TheVariants.{Enqueue, Asked}
 use Rattle.wf_frame.specs.declared.notes.Refusal.{Refusal}
@@ -32,6 +32,7 @@ pub record Trait : Type 0 where
   pub rate : Airtime_rate
   pub exponent : ℕ
   pub ampdu : Option ℕ
+  pub bss : ℕ
   pub asleep : Bool
   pub credit : Option Class
   pub delivery : ℕ
@@ -44,6 +45,7 @@ trait x = record {
   rate = x.rate;
   exponent = x.exponent;
   ampdu = x.ampdu;
+  bss = x.bss;
   asleep = x.asleep;
   credit = x.credit;
   delivery = x.delivery;
@@ -58,6 +60,7 @@ new_trait exponent weight = record {
   rate = lowest_rate;
   exponent = exponent;
   ampdu = None;
+  bss = 0;
   asleep = false;
   credit = None;
   delivery = 0;
@@ -361,6 +364,7 @@ module _ (P : ℕ → Option Trait → Type 0) where
   Changes (Asked (Poll s)) w = Turns w s (λ x. record x { credit = Some (class_to_send w s) })
   Changes (Asked (Ampdu s octets)) w = Turns w s (λ x. record x { ampdu = Some octets })
   Changes (Asked (Service ask)) w = Turns w (station_served ask) (after_service ask)
+  Changes (Asked (Bss s b)) w = Turns w s (λ x. record x { bss = b })
   Changes note w = Unit {0}
 
   kept_done : (note : Note) (w : World) → Changes note w → Keeps w → Keeps (outcome_of w note).world
@@ -396,6 +400,7 @@ module _ (P : ℕ → Option Trait → Type 0) where
   kept_done (Asked (Start s)) w k h = set_station w s _ (λ x _ i. i) h
   kept_done (Asked (Group ask)) w k h = h
   kept_done (Asked (Service ask)) w k h = set_station w (station_served ask) _ k h
+  kept_done (Asked (Bss s b)) w k h = set_station w s _ k h
 
   pub kept_refused : (note : Note) (r : Refusal) (w : World) → Keeps w → Keeps (after_refusal w note r)
   unfolding after_refusal

@@ -6,7 +6,7 @@ use Rattle.wf_frame.specs.declared.settings.Config.{Config}
 use Rattle.wf_frame.specs.declared.classes.Class.{Class}
 use Rattle.wf_frame.specs.declared.classes.Class.TheVariants.{Bk, Be, Vi, Vo}
 use Rattle.wf_frame.specs.declared.classes.Fate.{Fate}
-use Rattle.wf_frame.specs.declared.notes.Ask.TheVariants.{Join, Leave, Rate, Tick, Pull, Arrive, Answer, Done, Sleep, Wake, Poll, Rx, Reap, Ampdu, Stop, Start, Unsent, GiveUp, Flush, Offload, Weight, Plain, Hold, Begin, Free, Cease, Group, Service}
+use Rattle.wf_frame.specs.declared.notes.Ask.TheVariants.{Join, Leave, Rate, Tick, Pull, Arrive, Answer, Done, Sleep, Wake, Poll, Rx, Reap, Ampdu, Stop, Start, Unsent, GiveUp, Flush, Offload, Weight, Plain, Hold, Begin, Free, Cease, Group, Service, Bss}
 use Rattle.wf_frame.specs.declared.notes.Limits.{Limits}
 use Rattle.wf_frame.specs.declared.notes.Note.{Note}
 use Rattle.wf_frame.specs.declared.notes.Note.TheVariants.{Enqueue, Asked}
@@ -532,6 +532,7 @@ fair_done (Asked (Rx s c air)) w h = fair_received w s c air h
 fair_done (Asked Reap) w h = fair_reaped _ w h
 fair_done (Asked (Group ask)) w h = record { each = h.each }
 fair_done (Asked (Service ask)) w h = fair_on_station w (station_served ask) _ h (λ q x k. k)
+fair_done (Asked (Bss s b)) w h = fair_on_station w s _ h (λ q x k. k)
 
 fair_refused : (note : Note) (r : Refusal) (w : World) → IsFair w → IsFair (after_refusal w note r)
 unfolding after_refusal

@@ -18,7 +18,7 @@ use Rattle.wf_frame.specs.declared.notes.AskedRate.{AskedRate}
 use Rattle.wf_frame.specs.declared.settings.Config.{Config}
 use Rattle.wf_def_world.specs.FlowQueues.{without_head, after_limit, with_listed_queue, with_appended, after_put_in, with_queues_paid, taken_by_codel, taken_from_picked, taken_for_tid, after_queue_left, after_queues_left, after_queue_flushed, after_queues_flushed}
 use Rattle.wf_def_world.specs.Exchanges.{Aggregate, Prepared, with_station_paid, with_stations_paid, after_pick, after_tid_turn, with_fresh, aggregate_of, with_number, prepared_data, prepared_exchange, with_exchange_opened, after_charge, with_failed_finished, with_settled, with_all_settled, after_done, exchange_of, picked_station, charge_of, caught_up, caught_up_if_plain, longest_computed, with_spent}
-use Rattle.wf_def_world.specs.Step.{join_outcome, after_tid_left, after_tids_left, without_listings, leave_outcome, rate_outcome, with_frame, enqueue_outcome, send_outcome, done_outcome, sleep_outcome, wake_outcome, poll_outcome, rx_outcome, reap_outcome, ampdu_outcome, stop_outcome, start_outcome, after_tid_flushed, flush_outcome, offload_outcome, lesser_of, share_with_deficit, most_kept, with_deficits_lowered, weight_outcome, new_station, plain_window, plain_outcome, with_window, after_numbers_ended, hold_outcome, begin_outcome, free_outcome, cease_outcome, service_outcome}
+use Rattle.wf_def_world.specs.Step.{join_outcome, after_tid_left, after_tids_left, without_listings, leave_outcome, rate_outcome, with_frame, enqueue_outcome, send_outcome, done_outcome, sleep_outcome, wake_outcome, poll_outcome, rx_outcome, reap_outcome, ampdu_outcome, stop_outcome, start_outcome, after_tid_flushed, flush_outcome, offload_outcome, lesser_of, share_with_deficit, most_kept, with_deficits_lowered, weight_outcome, new_station, plain_window, plain_outcome, with_window, after_numbers_ended, hold_outcome, begin_outcome, free_outcome, cease_outcome, service_outcome, bss_outcome}
 use Rattle.wf_law_runs.proofs.Deficits.Books.{upd, updc, Account, plain, account, core, Books, books, with_account, with_lists, on_part, books_with_station, books_with_rotation, books_on_station, books_hidden, books_on_session, books_with_queues, books_on_share, books_on_queue, books_finish, books_finish_all, books_if, updc_idle, upd_idle, upd_same, upd_other, updc_same, books_on_tid, books_on_receiver}
 use Rattle.wf_law_runs.proofs.Deficits.Openings.{owed-core}
 use Rattle.wf_def_lists.specs.Lists.{on}
@@ -294,6 +294,9 @@ books_stopped w s = books_hidden w s _ (λ x. refl)
 
 pub books_served : (w : World) (ask : ServiceAsk) → books (service_outcome w ask).world ≡ books w
 books_served w ask = books_hidden w (station_served ask) _ (λ x. refl)
+
+pub books_moved : (w : World) (s b : ℕ) → books (bss_outcome w s b).world ≡ books w
+books_moved w s b = books_hidden w s _ (λ x. refl)
 
 pub books_started : (w : World) (s : ℕ) → books (start_outcome w s).world ≡ books w
 books_started w s = books_hidden w s _ (λ x. refl)

@@ -3,7 +3,7 @@
 use Rattle.std.proofs.Common.{◌≡◌, refl, ap, sym, ◌∙◌, subst, arith, ℕ, ◌<◌, Bool, true, false, [], ◌∷◌, Option, Some, None, is_some, inl, inr, ◌⊎◌}
 use Rattle.std.proofs.lemmas.Bool.{cases_eq}
 use Rattle.wf_frame.specs.declared.classes.Class.{Class}
-use Rattle.wf_frame.specs.declared.notes.Ask.TheVariants.{Join, Leave, Rate, Tick, Pull, Arrive, Answer, Done, Sleep, Wake, Poll, Rx, Reap, Ampdu, Stop, Start, Unsent, GiveUp, Flush, Offload, Weight, Plain, Hold, Begin, Free, Cease, Group, Service}
+use Rattle.wf_frame.specs.declared.notes.Ask.TheVariants.{Join, Leave, Rate, Tick, Pull, Arrive, Answer, Done, Sleep, Wake, Poll, Rx, Reap, Ampdu, Stop, Start, Unsent, GiveUp, Flush, Offload, Weight, Plain, Hold, Begin, Free, Cease, Group, Service, Bss}
 use Rattle.wf_frame.specs.declared.notes.Limits.{Limits}
 use Rattle.wf_frame.specs.declared.notes.Note.{Note}
 use Rattle.wf_frame.specs.declared.notes.Note.TheVariants.{Enqueue, Asked}
@@ -18,7 +18,7 @@ use Rattle.wf_law_rules.proofs.Lemmas.Counts.{on-nil, on-cons_other, on-append}
 use Rattle.wf_law_rules.proofs.Lemmas.Rotations.{pick_keeps, pick_winner}
 use Rattle.wf_law_runs.proofs.Common.Limits.{with_limits}
 use Rattle.wf_law_runs.proofs.Deficits.Books.{Books, books, with_account, upd_same, each_updc}
-use Rattle.wf_law_runs.proofs.Deficits.BookSteps.{books_after_turn, books_prepared, books_sent, books_ended, books_gone, all_off, books_enqueued, books_received, books_reaped, books_slept, books_woken, books_credited, books_with_rate, books_joined, after, books_after_pick, books_stated, books_stopped, books_started, books_flushed, books_offloaded, books_weighed, books_joined_plain, books_held, books_begun, books_freed, books_ceased, books_served}
+use Rattle.wf_law_runs.proofs.Deficits.BookSteps.{books_after_turn, books_prepared, books_sent, books_ended, books_gone, all_off, books_enqueued, books_received, books_reaped, books_slept, books_woken, books_credited, books_with_rate, books_joined, after, books_after_pick, books_stated, books_stopped, books_started, books_flushed, books_offloaded, books_weighed, books_joined_plain, books_held, books_begun, books_freed, books_ceased, books_served, books_moved}
 use Rattle.wf_law_runs.proofs.Deficits.Kept.{IsKept}
 use Rattle.wf_law_runs.proofs.Deficits.KeptStep.{to_list_live, live_account, IsFound, books_arrived, books_unsent, books_given_up, books_answered}
 use Rattle.wf_law_runs.proofs.Deficits.Listing.{Adds, AddedOf, added_listed}
@@ -134,6 +134,8 @@ own_done (Asked Reap) w s c k h = own_same c s w _
 own_done (Asked (Group ask)) w s c k h = own_same c s w _ refl
 own_done (Asked (Service ask)) w s c k h =
     own_same c s w _ (ap (λ (b : Books). b.rotations) (books_served w ask))
+own_done (Asked (Bss i bss)) w s c k h =
+    own_same c s w _ (ap (λ (b : Books). b.rotations) (books_moved w i bss))
 
 -- ---- the old list
 

@@ -1,7 +1,7 @@
 -- Proves that no call changes the settings.
 use Rattle.std.proofs.Common.{◌≡◌, refl, ap, ◌∙◌, ℕ, Bool, true, false, if◌then◌else◌, List, [], ◌∷◌, Option, Some, None}
 use Rattle.wf_frame.specs.declared.classes.Class.{Class}
-use Rattle.wf_frame.specs.declared.notes.Ask.TheVariants.{Join, Leave, Rate, Tick, Pull, Arrive, Answer, Done, Sleep, Wake, Poll, Rx, Reap, Ampdu, Stop, Start, Unsent, GiveUp, Flush, Offload, Weight, Plain, Hold, Begin, Free, Cease, Group, Service}
+use Rattle.wf_frame.specs.declared.notes.Ask.TheVariants.{Join, Leave, Rate, Tick, Pull, Arrive, Answer, Done, Sleep, Wake, Poll, Rx, Reap, Ampdu, Stop, Start, Unsent, GiveUp, Flush, Offload, Weight, Plain, Hold, Begin, Free, Cease, Group, Service, Bss}
 use Rattle.wf_frame.specs.declared.notes.Limits.{Limits}
 use Rattle.wf_frame.specs.declared.notes.Note.{Note}
 use Rattle.wf_frame.specs.declared.notes.Note.TheVariants.{Enqueue, Asked}
@@ -17,7 +17,7 @@ use Rattle.wf_def_world.specs.Step.{Outcome, tick_outcome, outcome_where_open, p
 use Rattle.wf_def_world.specs.Run.{Entry, world_after}
 use Rattle.wf_law_runs.proofs.Common.Refused.{after_idle}
 use Rattle.wf_law_runs.proofs.Deficits.Books.{Books, books}
-use Rattle.wf_law_runs.proofs.Deficits.BookSteps.{books_after_turn, books_prepared, books_sent, books_ended, books_gone, books_enqueued, books_received, books_reaped, books_slept, books_woken, books_credited, books_with_rate, books_joined, books_after_pick, books_stated, books_stopped, books_started, books_flushed, books_offloaded, books_weighed, books_joined_plain, books_held, books_begun, books_freed, books_ceased, books_served}
+use Rattle.wf_law_runs.proofs.Deficits.BookSteps.{books_after_turn, books_prepared, books_sent, books_ended, books_gone, books_enqueued, books_received, books_reaped, books_slept, books_woken, books_credited, books_with_rate, books_joined, books_after_pick, books_stated, books_stopped, books_started, books_flushed, books_offloaded, books_weighed, books_joined_plain, books_held, books_begun, books_freed, books_ceased, books_served, books_moved}
 
 same : (w v : World) (b : Books) → books v ≡ b → b.config ≡ w.config → v.config ≡ w.config
 same w v b e h = ap (λ (z : Books). z.config) e ∙ h
@@ -113,6 +113,7 @@ config_done (Asked (Rx s c air)) w = ap (λ (z : Books). z.config) (books_receiv
 config_done (Asked Reap) w = ap (λ (z : Books). z.config) (books_reaped w.finished w)
 config_done (Asked (Group ask)) w = refl
 config_done (Asked (Service ask)) w = ap (λ (z : Books). z.config) (books_served w ask)
+config_done (Asked (Bss s b)) w = ap (λ (z : Books). z.config) (books_moved w s b)
 
 config_refused : (note : Note) (r : Refusal) (w : World) → (after_refusal w note r).config ≡ w.config
 unfolding after_refusal

@@ -4,7 +4,7 @@ use Rattle.std.proofs.Common.{◌≡◌, refl, ap, sym, ◌∙◌, subst, arith,
 use Rattle.std.proofs.lemmas.Bool.{cases_eq, cases_Bool, and_parts, or_parts, eqb-true}
 use Rattle.wf_frame.specs.declared.settings.Config.{Config}
 use Rattle.wf_frame.specs.declared.classes.Class.{Class}
-use Rattle.wf_frame.specs.declared.notes.Ask.TheVariants.{Join, Leave, Rate, Tick, Pull, Arrive, Answer, Done, Sleep, Wake, Poll, Rx, Reap, Ampdu, Stop, Start, Unsent, GiveUp, Flush, Offload, Weight, Plain, Hold, Begin, Free, Cease, Group, Service}
+use Rattle.wf_frame.specs.declared.notes.Ask.TheVariants.{Join, Leave, Rate, Tick, Pull, Arrive, Answer, Done, Sleep, Wake, Poll, Rx, Reap, Ampdu, Stop, Start, Unsent, GiveUp, Flush, Offload, Weight, Plain, Hold, Begin, Free, Cease, Group, Service, Bss}
 use Rattle.wf_frame.specs.declared.notes.Limits.{Limits}
 use Rattle.wf_frame.specs.declared.notes.Note.{Note}
 use Rattle.wf_frame.specs.declared.notes.Note.TheVariants.{Enqueue, Asked}
@@ -25,7 +25,7 @@ use Rattle.wf_law_rules.proofs.Lemmas.Counts.{on-nil}
 use Rattle.wf_law_rules.proofs.Lemmas.Rotations.{pick_keeps}
 use Rattle.wf_law_runs.proofs.Common.Refused.{after_idle, if_idle}
 use Rattle.wf_law_runs.proofs.Deficits.Books.{Books, books, with_account, each_updc, Account}
-use Rattle.wf_law_runs.proofs.Deficits.BookSteps.{books_ended, books_gone, all_off, books_enqueued, books_received, books_reaped, books_slept, books_woken, books_credited, books_with_rate, books_joined, after, books_after_pick, books_stated, books_stopped, books_started, books_flushed, books_offloaded, books_weighed, books_joined_plain, books_held, books_begun, books_freed, books_ceased, books_served}
+use Rattle.wf_law_runs.proofs.Deficits.BookSteps.{books_ended, books_gone, all_off, books_enqueued, books_received, books_reaped, books_slept, books_woken, books_credited, books_with_rate, books_joined, after, books_after_pick, books_stated, books_stopped, books_started, books_flushed, books_offloaded, books_weighed, books_joined_plain, books_held, books_begun, books_freed, books_ceased, books_served, books_moved}
 use Rattle.wf_law_runs.proofs.Deficits.Kept.{IsKept, counted_in, standing_of, if_same}
 use Rattle.wf_law_runs.proofs.Deficits.KeptStep.{NoRow, no_row, IsFound, books_arrived, books_unsent, books_given_up, books_answered, kept_step, kept, live_account, standing_is}
 use Rattle.wf_law_runs.proofs.Deficits.Mild.{IsMild, mild_here, mild_then, mild_if, mild_with_rotation, ready_less}
@@ -145,6 +145,8 @@ keeps_done (Asked Reap) w s k h = keeps_same s w _
 keeps_done (Asked (Group ask)) w s k h = keeps_same s w _ refl
 keeps_done (Asked (Service ask)) w s k h =
     keeps_same s w _ (ap (λ (b : Books). b.rotations) (books_served w ask))
+keeps_done (Asked (Bss i bss)) w s k h =
+    keeps_same s w _ (ap (λ (b : Books). b.rotations) (books_moved w i bss))
 
 ready_to_list : (w : World) (c : Class) (s : ℕ) → is_ready w c s ≡ true → is_to_list w c s ≡ true
 ready_to_list w c s h = ap (λ (b : Bool). b || is_debtor w c s) h

@@ -6,7 +6,7 @@ use Rattle.wf_frame.specs.declared.classes.Class.{Class}
 use Rattle.wf_frame.specs.declared.classes.Cause.TheVariants.{Codel as By_codel, Left, Overlimit, Retries, Flushed, Ended}
 use Rattle.wf_frame.specs.declared.classes.Fate.{Fate}
 use Rattle.wf_frame.specs.declared.classes.Fate.TheVariants.{Held, Acked, Dropped}
-use Rattle.wf_frame.specs.declared.notes.Ask.TheVariants.{Join, Leave, Rate, Tick, Pull, Arrive, Answer, Done, Sleep, Wake, Poll, Rx, Reap, Ampdu, Stop, Start, Unsent, GiveUp, Flush, Offload, Weight, Plain, Hold, Begin, Free, Cease, Group, Service}
+use Rattle.wf_frame.specs.declared.notes.Ask.TheVariants.{Join, Leave, Rate, Tick, Pull, Arrive, Answer, Done, Sleep, Wake, Poll, Rx, Reap, Ampdu, Stop, Start, Unsent, GiveUp, Flush, Offload, Weight, Plain, Hold, Begin, Free, Cease, Group, Service, Bss}
 use Rattle.wf_frame.specs.declared.notes.Limits.{Limits}
 use Rattle.wf_frame.specs.declared.notes.Note.{Note}
 use Rattle.wf_frame.specs.declared.notes.Note.TheVariants.{Enqueue, Asked}
@@ -627,6 +627,7 @@ drops_done (Asked (Rx s c air)) w r = no_drops _ w _ (untouched_on_station w s _
 drops_done (Asked Reap) w r = none_wider _ w _ (none_reaped w.finished w)
 drops_done (Asked (Group ask)) w r = record { drops = λ k e. inl e }
 drops_done (Asked (Service ask)) w r = no_drops _ w _ (untouched_on_station w (station_served ask) _)
+drops_done (Asked (Bss s b)) w r = no_drops _ w _ (untouched_on_station w s _)
 
 untouched_refused : (note : Note) (r : Refusal) (w : World) → Untouched w (after_refusal w note r)
 unfolding after_refusal

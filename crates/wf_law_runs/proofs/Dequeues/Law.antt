@@ -1,7 +1,7 @@
 -- Proves the law of CoDel in whole runs, by induction on the run.
 use Rattle.std.proofs.Common.{subst, ap, sym, ◌∙◌, suc, ◌++◌, ◌<◌, inl, inr, ◌≡◌, refl, ℕ, ◌==◌, ◌&&◌, is_none, List, [], ◌∷◌, take}
 use Rattle.wf_frame.specs.declared.settings.Config.{Config}
-use Rattle.wf_frame.specs.declared.notes.Ask.TheVariants.{Join, Leave, Rate, Tick, Pull, Arrive, Answer, Done, Sleep, Wake, Poll, Rx, Reap, Ampdu, Stop, Start, Unsent, GiveUp, Flush, Offload, Weight, Plain, Hold, Begin, Free, Cease, Group, Service}
+use Rattle.wf_frame.specs.declared.notes.Ask.TheVariants.{Join, Leave, Rate, Tick, Pull, Arrive, Answer, Done, Sleep, Wake, Poll, Rx, Reap, Ampdu, Stop, Start, Unsent, GiveUp, Flush, Offload, Weight, Plain, Hold, Begin, Free, Cease, Group, Service, Bss}
 use Rattle.wf_frame.specs.declared.notes.Note.{Note}
 use Rattle.wf_frame.specs.declared.notes.Note.TheVariants.{Enqueue, Asked}
 use Rattle.wf_def_codel.specs.Codel.{Codel}
@@ -56,6 +56,7 @@ start_done (Asked (Rx s c air)) w q x h = h
 start_done (Asked Reap) w q x h = h
 start_done (Asked (Group ask)) w q x h = h
 start_done (Asked (Service ask)) w q x h = h
+start_done (Asked (Bss s b)) w q x h = h
 
 visited_step : (w : World) (note : Note) (q : ℕ) (x : Visits) → IsVisited w q x →
     IsVisited (step w note).world q (visits_after w q note x)

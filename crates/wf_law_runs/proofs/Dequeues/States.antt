@@ -8,7 +8,7 @@ use Rattle.wf_frame.specs.declared.classes.Class.{Class}
 use Rattle.wf_frame.specs.declared.classes.Cause.TheVariants.{Codel as By_codel, Left, Overlimit, Flushed}
 use Rattle.wf_frame.specs.declared.classes.Fate.{Fate}
 use Rattle.wf_frame.specs.declared.classes.Fate.TheVariants.{Dropped}
-use Rattle.wf_frame.specs.declared.notes.Ask.TheVariants.{Join, Leave, Rate, Tick, Pull, Arrive, Answer, Done, Sleep, Wake, Poll, Rx, Reap, Ampdu, Stop, Start, Unsent, GiveUp, Flush, Offload, Weight, Plain, Hold, Begin, Free, Cease, Group, Service}
+use Rattle.wf_frame.specs.declared.notes.Ask.TheVariants.{Join, Leave, Rate, Tick, Pull, Arrive, Answer, Done, Sleep, Wake, Poll, Rx, Reap, Ampdu, Stop, Start, Unsent, GiveUp, Flush, Offload, Weight, Plain, Hold, Begin, Free, Cease, Group, Service, Bss}
 use Rattle.wf_frame.specs.declared.notes.Limits.{Limits}
 use Rattle.wf_frame.specs.declared.notes.Note.{Note}
 use Rattle.wf_frame.specs.declared.notes.Note.TheVariants.{Enqueue, Asked}
@@ -557,6 +557,7 @@ codel_done (Asked Reap) w q x h = codel_same q (shelves_reaped w.finished w) ∙
 codel_done (Asked (Group ask)) w q x h = h
 codel_done (Asked (Service ask)) w q x h =
     codel_same q (shelves_hidden w (station_served ask) _ (λ x. refl)) ∙ h
+codel_done (Asked (Bss s b)) w q x h = codel_same q (shelves_hidden w s _ (λ x. refl)) ∙ h
 
 codel_refused : (note : Note) (r : Refusal) (w : World) (q : ℕ) →
     (queue (after_refusal w note r) q).codel ≡ (queue w q).codel

@@ -3,7 +3,7 @@ use Rattle.std.proofs.Common.{◌≡◌, refl, ap, sym, ◌∙◌, subst, arith,
 use Rattle.std.proofs.lemmas.Bool.{cases_eq, ne_eqb, not_from_true, not_from_false}
 use Rattle.wf_frame.specs.declared.classes.Class.{Class}
 use Rattle.wf_frame.specs.declared.classes.Class.TheVariants.{Bk, Be, Vi, Vo}
-use Rattle.wf_frame.specs.declared.notes.Ask.TheVariants.{Join, Leave, Rate, Tick, Pull, Arrive, Answer, Done, Sleep, Wake, Poll, Rx, Reap, Ampdu, Stop, Start, Unsent, GiveUp, Flush, Offload, Weight, Plain, Hold, Begin, Free, Cease, Group, Service}
+use Rattle.wf_frame.specs.declared.notes.Ask.TheVariants.{Join, Leave, Rate, Tick, Pull, Arrive, Answer, Done, Sleep, Wake, Poll, Rx, Reap, Ampdu, Stop, Start, Unsent, GiveUp, Flush, Offload, Weight, Plain, Hold, Begin, Free, Cease, Group, Service, Bss}
 use Rattle.wf_frame.specs.declared.notes.AskedRate.{AskedRate}
 use Rattle.wf_frame.specs.declared.notes.Limits.{Limits}
 use Rattle.wf_frame.specs.declared.notes.Note.{Note}
@@ -25,7 +25,7 @@ use Rattle.wf_law_rules.proofs.Lemmas.Rotations.{stay}
 use Rattle.wf_law_runs.proofs.Common.Refused.{after_idle}
 use Rattle.wf_law_runs.proofs.Common.Limits.{with_limits}
 use Rattle.wf_law_runs.proofs.Deficits.Books.{Account, account, core, Books, books, with_account, on_part, upd_same, upd_other, each_upd, updc_same, updc_other, each_updc, cases_class}
-use Rattle.wf_law_runs.proofs.Deficits.BookSteps.{books_after_turn, books_prepared, books_sent, with_opened, charge_share, with_charge, books_ended, books_gone, all_off, books_enqueued, receive_share, books_received, books_reaped, books_slept, books_woken, books_credited, rated, books_with_rate, fresh_account, books_joined, pay_share, paid, after, books_after_pick, books_stated, books_stopped, books_started, books_flushed, books_offloaded, books_weighed, reweighed, books_joined_plain, books_held, books_begun, books_freed, books_ceased, books_served}
+use Rattle.wf_law_runs.proofs.Deficits.BookSteps.{books_after_turn, books_prepared, books_sent, with_opened, charge_share, with_charge, books_ended, books_gone, all_off, books_enqueued, receive_share, books_received, books_reaped, books_slept, books_woken, books_credited, rated, books_with_rate, fresh_account, books_joined, pay_share, paid, after, books_after_pick, books_stated, books_stopped, books_started, books_flushed, books_offloaded, books_weighed, reweighed, books_joined_plain, books_held, books_begun, books_freed, books_ceased, books_served, books_moved}
 use Rattle.wf_law_runs.proofs.Deficits.Openings.{every_find}
 use Rattle.wf_law_runs.proofs.Deficits.Kept.{IsOpen, IsKept}
 use Rattle.wf_law_runs.proofs.Deficits.KeptStep.{NoRow, no_row, live_account, IsFound, at_number, books_arrived, books_unsent, books_given_up, books_answered}
@@ -553,6 +553,7 @@ turn_done (Asked (Rx s d air)) w c i j r k h h' = turn_received w s d air c i j
 turn_done (Asked Reap) w c i j r k h h' = turn_same c i j _ _ (books_reaped w.finished w)
 turn_done (Asked (Group ask)) w c i j r k h h' = turn_here c i j (books w)
 turn_done (Asked (Service ask)) w c i j r k h h' = turn_same c i j _ _ (books_served w ask)
+turn_done (Asked (Bss s b)) w c i j r k h h' = turn_same c i j _ _ (books_moved w s b)
 
 turn_refused : (note : Note) (r : Refusal) (w : World) (c : Class) (i j : ℕ) → IsKept (books w) →
     Both c i j (books w) → Both c i j (books (after_refusal w note r)) →

@@ -12,7 +12,7 @@ use Rattle.wf_frame.specs.Classes.{all_classes}
 use Rattle.wf_def_world.specs.FlowQueues.{after_limit, with_appended, after_put_in, taken_for_tid}
 use Rattle.wf_def_world.specs.CanSend.{is_ready, can_give}
 use Rattle.wf_def_world.specs.Exchanges.{end_of, is_acked, station_need, most_frames, picked_station, after_arrival, exchange_of, sending_tid, Prepared, mpdus_of, after_tid_turn, with_fresh, aggregate_of, with_number, fresh_mpdus, with_flying, waiting_mpdus, longest_fitting, prepared_data, prepared_exchange, with_exchange_opened, after_charge, with_failed_finished, with_settled, with_all_settled, after_done, fits_in, mpdu_of, Aggregate, with_spent}
-use Rattle.wf_frame.specs.declared.notes.Ask.TheVariants.{Join, Leave, Rate, Tick, Pull, Arrive, Answer, Done, Sleep, Wake, Poll, Rx, Reap, Ampdu, Stop, Start, Unsent, GiveUp, Flush, Offload, Weight, Plain, Hold, Begin, Free, Cease, Group, Service}
+use Rattle.wf_frame.specs.declared.notes.Ask.TheVariants.{Join, Leave, Rate, Tick, Pull, Arrive, Answer, Done, Sleep, Wake, Poll, Rx, Reap, Ampdu, Stop, Start, Unsent, GiveUp, Flush, Offload, Weight, Plain, Hold, Begin, Free, Cease, Group, Service, Bss}
 use Rattle.wf_frame.specs.declared.notes.Limits.{Limits}
 use Rattle.wf_frame.specs.declared.notes.Note.{Note}
 use Rattle.wf_frame.specs.declared.notes.Note.TheVariants.{Enqueue, Asked}
@@ -983,6 +983,7 @@ delivered_done (Asked (Rx s c air)) w i a e =
 delivered_done (Asked Reap) w i a e = delivered_reaped _ w.finished w i a
 delivered_done (Asked (Group ask)) w i a e = delivered_plain _ w _ refl refl refl (λ id h. h) i a
 delivered_done (Asked (Service ask)) w i a e = delivered_station _ w (station_served ask) _ (λ x t. refl) i a
+delivered_done (Asked (Bss s b)) w i a e = delivered_station _ w s _ (λ x t. refl) i a
 delivered_done (Asked (Unsent x n)) w i a e = delivered_open _ (IsRead w) (exchange w x) w _ (read w i a x) a
     (λ y r. delivered_unsent _ w y n r a)
 delivered_done (Asked (GiveUp x n)) w i a e = delivered_open _ (IsRead w) (exchange w x) w _ (read w i a x) a

@@ -5,7 +5,7 @@ use Rattle.wf_frame.specs.Settings.{IsInRange}
 use Rattle.wf_frame.specs.declared.classes.Class.{Class}
 use Rattle.wf_frame.specs.declared.classes.Cause.TheVariants.{Overlimit, Left}
 use Rattle.wf_frame.specs.declared.classes.Fate.TheVariants.{Dropped}
-use Rattle.wf_frame.specs.declared.notes.Ask.TheVariants.{Join, Leave, Rate, Tick, Pull, Arrive, Answer, Done, Sleep, Wake, Poll, Rx, Reap, Ampdu, Stop, Start, Unsent, GiveUp, Flush, Offload, Weight, Plain, Hold, Begin, Free, Cease, Group, Service}
+use Rattle.wf_frame.specs.declared.notes.Ask.TheVariants.{Join, Leave, Rate, Tick, Pull, Arrive, Answer, Done, Sleep, Wake, Poll, Rx, Reap, Ampdu, Stop, Start, Unsent, GiveUp, Flush, Offload, Weight, Plain, Hold, Begin, Free, Cease, Group, Service, Bss}
 use Rattle.wf_frame.specs.declared.notes.Note.{Note}
 use Rattle.wf_frame.specs.declared.notes.Note.TheVariants.{Enqueue, Asked}
 use Rattle.wf_frame.specs.declared.notes.Refusal.{Refusal}
@@ -355,6 +355,7 @@ stood_done (Asked (Rx s c air)) l most w k r f h i = stood_share w s c _ i
 stood_done (Asked Reap) l most w k r f h i = stood_reaped w.finished w i
 stood_done (Asked (Group ask)) l most w k r f h i = stood_plain w _ refl refl refl i
 stood_done (Asked (Service ask)) l most w k r f h i = stood_station w (station_served ask) _ (λ x t. refl) i
+stood_done (Asked (Bss s b)) l most w k r f h i = stood_station w s _ (λ x t. refl) i
 stood_done (Asked (Unsent x n)) l most w k r f h i =
     stood_open (IsFoundNamed w k.lawful) (exchange w x) w _ (found_named w k.lawful k.labelled x) i
     (λ y g. stood_unsent w y n i)

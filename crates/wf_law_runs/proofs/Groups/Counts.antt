@@ -1,11 +1,11 @@
--- Proves which ids the group frames that wait and the one on the air have, and how many there are, after each
--- entry of a history. By induction on the number of entries.
+-- Proves which ids the group frames of a BSS that wait and the one on the air have, and how many there are,
+-- after each entry of a history. By induction on the number of entries.
 use Rattle.std.proofs.Common.{◌≡◌, refl, sym, ◌∙◌, subst, arith, ℕ, zero, suc, ◌+◌, ◌<◌, ◌≤◌, nat_lt, Bool, true, false, not, ◌||◌, inl, inr, List, [], ◌∷◌, ◌++◌, length, Option, Some, None, IfSome, is_some, if◌then◌else◌}
 use Rattle.wf_frame.specs.declared.settings.Config.{Config}
 use Rattle.wf_frame.specs.declared.notes.GroupAsk.{GroupAsk}
 use Rattle.wf_frame.specs.declared.notes.GroupAsk.TheVariants as group
 use Rattle.wf_def_world.specs.Group.{GroupFrame, GroupState, dtim_period, next_count, is_first_free, may_go, first_queued, after_first, group_after}
-use Rattle.wf_def_world.specs.World.{World}
+use Rattle.wf_def_world.specs.World.{World, group_of}
 use Rattle.wf_def_world.specs.Run.{Entry, world_after}
 use Rattle.wf_def_world.specs.Stretches.{world_at}
 use Rattle.wf_law_rules.proofs.Lemmas.Numbers.{lt_yes}
@@ -135,27 +135,30 @@ sound_after group.Done config sleeps g h i =
 
 -- ---- the run
 
-pub sound_at : (config : Config) (h : List Entry) (m : ℕ) → IsSound config (state_at config h m)
-unfolding world_after
-sound_at config h zero = record {
-  flying = tt;
-  queued = refl;
-  room = omega arith;
-  count = omega arith;
-}
-sound_at config h (suc m) = elim (moment config h m) [
-  | inl stays ↦ subst (IsSound config) (sym stays.same) (sound_at config h m)
-  | inr moves ↦ subst (IsSound config) (sym moves.1.after)
-      (sound_after moves.0 config (sleeps_at config h m) (state_at config h m) moves.1.allowed
-      (sound_at config h m))
-]
+module _ (config : Config) (h : List Entry) (b : ℕ) where
+  pub sound_at : (m : ℕ) → IsSound config (state_at config h b m)
+  unfolding world_after
+  sound_at zero = record {
+    flying = tt;
+    queued = refl;
+    room = omega arith;
+    count = omega arith;
+  }
+  sound_at (suc m) = elim (moment config h b m) [
+    | inl stays ↦ subst (IsSound config) (sym stays.same) (sound_at m)
+    | inr moves ↦ subst (IsSound config) (sym moves.1.after)
+        (sound_after moves.0 config (sleeps_at config h b m) (state_at config h b m) moves.1.allowed
+        (sound_at m))
+  ]
 
-adds_up : (config : Config) (w : World) → w.config ≡ config → IsSound config w.group → GroupAddsUp w
-adds_up config w e i = record {
-  sum = omega (arith, next_more config w.group i);
-  room = subst (λ (k : Config). length w.group.queued ≤ k.buffered) (sym e) i.room;
-  count = subst (λ (k : Config). w.group.count < dtim_period k.period) (sym e) i.count;
+adds_up : (config : Config) (w : World) (b : ℕ) → w.config ≡ config → IsSound config (group_of w b) →
+    GroupAddsUp w b
+adds_up config w b e i = record {
+  sum = omega (arith, next_more config (group_of w b) i);
+  room = subst (λ (k : Config). length (group_of w b).queued ≤ k.buffered) (sym e) i.room;
+  count = subst (λ (k : Config). (group_of w b).count < dtim_period k.period) (sym e) i.count;
 }
 
 pub count_law : (config : Config) (h : List Entry) → GroupCountLaw config h
-count_law config h m = adds_up config (world_at config h m) (config_at config h m) (sound_at config h m)
+count_law config h b m =
+    adds_up config (world_at config h m) b (config_at config h b m) (sound_at config h b m)

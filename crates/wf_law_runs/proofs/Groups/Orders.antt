@@ -1,25 +1,23 @@
--- Proves in which order group frames are accepted, sent and ended, and which sequence numbers they get. By
--- induction on the number of entries.
-use Rattle.std.proofs.Common.{◌≡◌, refl, ap, sym, ◌∙◌, subst, arith, ℕ, zero, suc, ◌+◌, ◌%◌, Bool, true, false, inl, inr, List, [], ◌∷◌, ◌++◌, append_assoc, append-nil, length, take, Option, Some, None, IfSome, is_some, slice_get}
+-- Proves in which order the group frames of a BSS are accepted, sent and ended, and which sequence numbers
+-- they get. By induction on the number of entries.
+use Rattle.std.proofs.Common.{◌≡◌, refl, ap, sym, ◌∙◌, subst, arith, ℕ, zero, suc, ◌+◌, ◌%◌, Bool, true, false, inl, inr, List, [], ◌∷◌, ◌++◌, append_assoc, append-nil, length, take, Option, Some, None, IfSome, is_some}
 use Rattle.std.proofs.Math.Seq.{take-length}
 use Rattle.wf_frame.specs.declared.settings.Config.{Config}
 use Rattle.wf_frame.specs.declared.notes.GroupAsk.{GroupAsk}
 use Rattle.wf_frame.specs.declared.notes.GroupAsk.TheVariants as group
 use Rattle.wf_frame.specs.declared.notes.GroupReply.{GroupReply}
 use Rattle.wf_frame.specs.declared.notes.GroupReply.TheVariants as answer
-use Rattle.wf_frame.specs.declared.notes.ReplyNote.{ReplyNote}
-use Rattle.wf_frame.specs.declared.notes.ReplyNote.TheVariants as reply
-use Rattle.wf_def_lists.specs.Table.{count_from, upto}
+use Rattle.wf_def_lists.specs.Table.{at, count_from, upto}
 use Rattle.wf_def_world.specs.Group.{GroupFrame, GroupState, id_of, may_go, first_queued, group_after, group_answer}
 use Rattle.wf_def_world.specs.World.{World, opening}
 use Rattle.wf_def_world.specs.Step.{step}
 use Rattle.wf_def_world.specs.Run.{Entry, replies, world_after}
-use Rattle.wf_law_runs.specs.Groups.{group_accepts, group_sends, group_ends, numbers_taken, GroupOrderLaw}
-use Rattle.wf_law_runs.proofs.Groups.Steps.{told, IsAllowed}
-use Rattle.wf_law_runs.proofs.Groups.Moments.{take_some, take_none, state_at, sleeps_at, told_at, StaysAt, MovesAt, moment, SendsAt, sends_at}
+use Rattle.wf_law_runs.specs.Groups.{answers_about, group_answers, group_accepts, group_sends, group_ends, numbers_taken, GroupsInOrder, GroupOrderLaw}
+use Rattle.wf_law_runs.proofs.Groups.Steps.{IsAllowed}
+use Rattle.wf_law_runs.proofs.Groups.Moments.{state_at, sleeps_at, told_at, StaysAt, MovesAt, moment, SendsAt, sends_at}
 use Rattle.wf_law_runs.proofs.Groups.Counts.{RunsFrom, HasFirst, first_of_free, IsSound, next_id, none_flying, one_flying, sound_at}
 
--- ---- the ids of one reply
+-- ---- the ids of one answer
 
 abbrev accepts_of : Option GroupReply → List ℕ
 accepts_of (Some (answer.Queued id)) = id ∷ []
@@ -38,76 +36,55 @@ taken_of (Some (answer.Send id number air more)) = 1
 taken_of (Some (answer.Beacon count follows)) = 1
 taken_of r = 0
 
-accepts_cons : (r : ReplyNote) (rs : List ReplyNote) →
-    group_accepts (r ∷ rs) ≡ accepts_of (told (Some r)) ++ group_accepts rs
-accepts_cons (reply.Group (answer.Queued id)) rs = refl
-accepts_cons (reply.Group _) rs = refl
+accepts_cons : (r : Option GroupReply) (rs : List (Option GroupReply)) →
+    group_accepts (r ∷ rs) ≡ accepts_of r ++ group_accepts rs
+accepts_cons (Some (answer.Queued id)) rs = refl
 accepts_cons _ rs = refl
 
-sends_cons : (r : ReplyNote) (rs : List ReplyNote) →
-    group_sends (r ∷ rs) ≡ sends_of (told (Some r)) ++ group_sends rs
-sends_cons (reply.Group (answer.Send id number air more)) rs = refl
-sends_cons (reply.Group _) rs = refl
+sends_cons : (r : Option GroupReply) (rs : List (Option GroupReply)) →
+    group_sends (r ∷ rs) ≡ sends_of r ++ group_sends rs
+sends_cons (Some (answer.Send id number air more)) rs = refl
 sends_cons _ rs = refl
 
-ends_cons : (r : ReplyNote) (rs : List ReplyNote) →
-    group_ends (r ∷ rs) ≡ ends_of (told (Some r)) ++ group_ends rs
-ends_cons (reply.Group (answer.Done id)) rs = refl
-ends_cons (reply.Group _) rs = refl
+ends_cons : (r : Option GroupReply) (rs : List (Option GroupReply)) →
+    group_ends (r ∷ rs) ≡ ends_of r ++ group_ends rs
+ends_cons (Some (answer.Done id)) rs = refl
 ends_cons _ rs = refl
 
-taken_cons : (r : ReplyNote) (rs : List ReplyNote) →
-    numbers_taken (r ∷ rs) ≡ taken_of (told (Some r)) + numbers_taken rs
-taken_cons (reply.Group (answer.Send id number air more)) rs = refl
-taken_cons (reply.Group (answer.Beacon count follows)) rs = refl
-taken_cons (reply.Group _) rs = omega arith
+taken_cons : (r : Option GroupReply) (rs : List (Option GroupReply)) →
+    numbers_taken (r ∷ rs) ≡ taken_of r + numbers_taken rs
+taken_cons (Some (answer.Send id number air more)) rs = refl
+taken_cons (Some (answer.Beacon count follows)) rs = refl
 taken_cons _ rs = omega arith
 
--- ---- the ids of the first replies
+-- ---- the ids of the first answers
 
--- `ids` collects the ids that `of` gives for each reply.
-module _ (ids : List ReplyNote → List ℕ) (of : Option GroupReply → List ℕ) (empty : ids [] ≡ [])
+-- `ids` collects the ids that `of` gives for each answer.
+module _ (ids : List (Option GroupReply) → List ℕ) (of : Option GroupReply → List ℕ) (empty : ids [] ≡ [])
     (none : of None ≡ [])
-    (cons : (r : ReplyNote) (rs : List ReplyNote) → ids (r ∷ rs) ≡ of (told (Some r)) ++ ids rs) where
-  ids_more : (rs : List ReplyNote) (r : ReplyNote) → ids (rs ++ r ∷ []) ≡ ids rs ++ of (told (Some r))
-  ids_more [] r = cons r []
-      ∙ (ap (λ (xs : List ℕ). of (told (Some r)) ++ xs) empty
-      ∙ (append-nil (of (told (Some r))) ∙ ap (λ (xs : List ℕ). xs ++ of (told (Some r))) (sym empty)))
-  ids_more (x ∷ rs) r = cons x (rs ++ r ∷ [])
-      ∙ (ap (λ (xs : List ℕ). of (told (Some x)) ++ xs) (ids_more rs r)
-      ∙ (sym (append_assoc (of (told (Some x))) (ids rs) (of (told (Some r))))
-      ∙ ap (λ (xs : List ℕ). xs ++ of (told (Some r))) (sym (cons x rs))))
+    (cons : (r : Option GroupReply) (rs : List (Option GroupReply)) → ids (r ∷ rs) ≡ of r ++ ids rs) where
+  ids_past : ids [] ≡ ids [] ++ of None
+  ids_past = sym (append-nil (ids [])) ∙ ap (λ (xs : List ℕ). ids [] ++ xs) (sym none)
 
-  ids_at : (rs : List ReplyNote) (m : ℕ) →
-      ids (take (suc m) rs) ≡ ids (take m rs) ++ of (told (slice_get rs m))
-  ids_at rs m = go (slice_get rs m) refl
-    where
-      go : (o : Option ReplyNote) → slice_get rs m ≡ o →
-          ids (take (suc m) rs) ≡ ids (take m rs) ++ of (told (slice_get rs m))
-      go None e = ap ids (take_none rs m e)
-          ∙ (sym (append-nil (ids (take m rs)))
-          ∙ ap (λ (xs : List ℕ). ids (take m rs) ++ xs) (sym (ap of (ap told e) ∙ none)))
-      go (Some r) e = ap ids (take_some rs m r e)
-          ∙ (ids_more (take m rs) r
-          ∙ ap (λ (xs : List ℕ). ids (take m rs) ++ xs) (sym (ap of (ap told e))))
+  ids_at : (rs : List (Option GroupReply)) (m : ℕ) →
+      ids (take (suc m) rs) ≡ ids (take m rs) ++ of (at None rs m)
+  ids_at [] zero = ids_past
+  ids_at [] (suc m) = ids_past
+  ids_at (x ∷ rs) zero = cons x []
+      ∙ (ap (λ (xs : List ℕ). of x ++ xs) empty
+      ∙ (append-nil (of x) ∙ ap (λ (xs : List ℕ). xs ++ of x) (sym empty)))
+  ids_at (x ∷ rs) (suc m) = cons x (take (suc m) rs)
+      ∙ (ap (λ (xs : List ℕ). of x ++ xs) (ids_at rs m)
+      ∙ (sym (append_assoc (of x) (ids (take m rs)) (of (at None rs m)))
+      ∙ ap (λ (xs : List ℕ). xs ++ of (at None rs m)) (sym (cons x (take m rs)))))
 
-taken_more : (rs : List ReplyNote) (r : ReplyNote) →
-    numbers_taken (rs ++ r ∷ []) ≡ numbers_taken rs + taken_of (told (Some r))
-taken_more [] r = taken_cons r [] ∙ omega arith
-taken_more (x ∷ rs) r = omega (arith, taken_cons x (rs ++ r ∷ []), taken_more rs r, taken_cons x rs)
-
-taken_at : (rs : List ReplyNote) (m : ℕ) →
-    numbers_taken (take (suc m) rs) ≡ numbers_taken (take m rs) + taken_of (told (slice_get rs m))
-taken_at rs m = go (slice_get rs m) refl
-  where
-    go : (o : Option ReplyNote) → slice_get rs m ≡ o →
-        numbers_taken (take (suc m) rs) ≡ numbers_taken (take m rs) + taken_of (told (slice_get rs m))
-    go None e =
-        let same : taken_of (told (slice_get rs m)) ≡ 0 = ap taken_of (ap told e) in
-        ap numbers_taken (take_none rs m e) ∙ omega (arith, same)
-    go (Some r) e =
-        let same : taken_of (told (slice_get rs m)) ≡ taken_of (told (Some r)) = ap taken_of (ap told e) in
-        ap numbers_taken (take_some rs m r e) ∙ (taken_more (take m rs) r ∙ omega (arith, same))
+taken_at : (rs : List (Option GroupReply)) (m : ℕ) →
+    numbers_taken (take (suc m) rs) ≡ numbers_taken (take m rs) + taken_of (at None rs m)
+taken_at [] zero = refl
+taken_at [] (suc m) = refl
+taken_at (x ∷ rs) zero = taken_cons x [] ∙ omega arith
+taken_at (x ∷ rs) (suc m) =
+    omega (arith, taken_cons x (take (suc m) rs), taken_at rs m, taken_cons x (take m rs))
 
 -- ---- one call
 
@@ -194,18 +171,18 @@ taken_step group.Done config sleeps g = omega arith
 
 -- ---- the run
 
--- The ids and the sequence numbers in the replies to the first m entries.
-record IsOrdered (config : Config) (h : List Entry) (m : ℕ) : Type 0 where
-  accepts : group_accepts (take m (replies (opening config) h)) ≡ upto (state_at config h m).accepted
-  sends : group_sends (take m (replies (opening config) h)) ≡ upto (next_id (state_at config h m))
-  ends : group_ends (take m (replies (opening config) h)) ≡ upto (state_at config h m).sent
-  numbers : numbers_taken (take m (replies (opening config) h)) ≡ (state_at config h m).number
+-- The ids and the sequence numbers in the answers about BSS b to the first m entries.
+record IsOrdered (config : Config) (h : List Entry) (b m : ℕ) : Type 0 where
+  accepts : group_accepts (take m (group_answers config h b)) ≡ upto (state_at config h b m).accepted
+  sends : group_sends (take m (group_answers config h b)) ≡ upto (next_id (state_at config h b m))
+  ends : group_ends (take m (group_answers config h b)) ≡ upto (state_at config h b m).sent
+  numbers : numbers_taken (take m (group_answers config h b)) ≡ (state_at config h b m).number
 
-module _ (config : Config) (h : List Entry) where
-  abbrev answers : List ReplyNote
-  answers = replies (opening config) h
+module _ (config : Config) (h : List Entry) (b : ℕ) where
+  abbrev answers : List (Option GroupReply)
+  answers = group_answers config h b
 
-  ordered_still : (m : ℕ) → StaysAt config h m → IsOrdered config h m → IsOrdered config h (suc m)
+  ordered_still : (m : ℕ) → StaysAt config h b m → IsOrdered config h b m → IsOrdered config h b (suc m)
   ordered_still m s i = record {
     accepts = ids_at group_accepts accepts_of refl refl accepts_cons answers m
         ∙ (ap (λ (o : Option GroupReply). group_accepts (take m answers) ++ accepts_of o) s.silent
@@ -220,64 +197,64 @@ module _ (config : Config) (h : List Entry) where
         ∙ (append-nil (group_ends (take m answers))
         ∙ (i.ends ∙ ap (λ (g : GroupState). upto g.sent) (sym s.same))));
     numbers =
-        let none : taken_of (told_at config h m) ≡ 0 = ap taken_of s.silent in
-        let same : (state_at config h (suc m)).number ≡ (state_at config h m).number =
+        let none : taken_of (told_at config h b m) ≡ 0 = ap taken_of s.silent in
+        let same : (state_at config h b (suc m)).number ≡ (state_at config h b m).number =
         ap (λ (g : GroupState). g.number) s.same in
         omega (arith, taken_at answers m, none, same, i.numbers);
   }
 
-  ordered_moved : (m : ℕ) (ask : GroupAsk) → MovesAt config h m ask → IsOrdered config h m →
-      IsOrdered config h (suc m)
+  ordered_moved : (m : ℕ) (ask : GroupAsk) → MovesAt config h b m ask → IsOrdered config h b m →
+      IsOrdered config h b (suc m)
   ordered_moved m ask s i =
-      let g : GroupState = state_at config h m in
-      let answer : GroupReply = group_answer config (sleeps_at config h m) ask g in
-      let is : told_at config h m ≡ Some answer = ap told s.reply in
-      let sound : IsSound config g = sound_at config h m in
+      let g : GroupState = state_at config h b m in
+      let answer : GroupReply = group_answer config (sleeps_at config h b m) ask g in
+      let is : told_at config h b m ≡ Some answer = s.reply in
+      let sound : IsSound config g = sound_at config h b m in
       record {
         accepts = ids_at group_accepts accepts_of refl refl accepts_cons answers m
             ∙ (ap (λ (o : Option GroupReply). group_accepts (take m answers) ++ accepts_of o) is
             ∙ (ap (λ (xs : List ℕ). xs ++ accepts_of (Some answer)) i.accepts
-            ∙ (accepts_step ask config (sleeps_at config h m) g
+            ∙ (accepts_step ask config (sleeps_at config h b m) g
             ∙ ap (λ (z : GroupState). upto z.accepted) (sym s.after))));
         sends = ids_at group_sends sends_of refl refl sends_cons answers m
             ∙ (ap (λ (o : Option GroupReply). group_sends (take m answers) ++ sends_of o) is
             ∙ (ap (λ (xs : List ℕ). xs ++ sends_of (Some answer)) i.sends
-            ∙ (sends_step ask config (sleeps_at config h m) g s.allowed sound
+            ∙ (sends_step ask config (sleeps_at config h b m) g s.allowed sound
             ∙ ap (λ (z : GroupState). upto (next_id z)) (sym s.after))));
         ends = ids_at group_ends ends_of refl refl ends_cons answers m
             ∙ (ap (λ (o : Option GroupReply). group_ends (take m answers) ++ ends_of o) is
             ∙ (ap (λ (xs : List ℕ). xs ++ ends_of (Some answer)) i.ends
-            ∙ (ends_step ask config (sleeps_at config h m) g s.allowed sound
+            ∙ (ends_step ask config (sleeps_at config h b m) g s.allowed sound
             ∙ ap (λ (z : GroupState). upto z.sent) (sym s.after))));
         numbers = taken_at answers m
             ∙ (ap (λ (o : Option GroupReply). numbers_taken (take m answers) + taken_of o) is
             ∙ (ap (λ (n : ℕ). n + taken_of (Some answer)) i.numbers
-            ∙ (taken_step ask config (sleeps_at config h m) g
+            ∙ (taken_step ask config (sleeps_at config h b m) g
             ∙ ap (λ (z : GroupState). z.number) (sym s.after))));
       }
 
-  ordered_at : (m : ℕ) → IsOrdered config h m
+  ordered_at : (m : ℕ) → IsOrdered config h b m
   unfolding world_after
   ordered_at zero = record { accepts = refl; sends = refl; ends = refl; numbers = refl }
-  ordered_at (suc m) = elim (moment config h m) [
+  ordered_at (suc m) = elim (moment config h b m) [
     | inl stays ↦ ordered_still m stays (ordered_at m)
     | inr moves ↦ ordered_moved m moves.0 moves.1 (ordered_at m)
   ]
 
-replies_length : (h : List Entry) (w : World) → length (replies w h) ≡ length h
+answers_length : (b : ℕ) (h : List Entry) (w : World) → length (answers_about b h (replies w h)) ≡ length h
 unfolding replies
-replies_length [] w = refl
-replies_length (e ∷ es) w = ap suc (replies_length es (step w e.1).world)
+answers_length b [] w = refl
+answers_length b (e ∷ es) w = ap suc (answers_length b es (step w e.1).world)
 
-pub order_law : (config : Config) (h : List Entry) → GroupOrderLaw config h
-order_law config h =
-    let rs : List ReplyNote = replies (opening config) h in
-    let i : IsOrdered config h (length h) = ordered_at config h (length h) in
-    let all : take (length h) rs ≡ rs = ap (λ (n : ℕ). take n rs) (sym (replies_length h (opening config)))
+in_order_at : (config : Config) (h : List Entry) (b : ℕ) → GroupsInOrder config h b
+in_order_at config h b =
+    let rs : List (Option GroupReply) = group_answers config h b in
+    let i : IsOrdered config h b (length h) = ordered_at config h b (length h) in
+    let all : take (length h) rs ≡ rs = ap (λ (n : ℕ). take n rs) (sym (answers_length b h (opening config)))
     ∙ take-length rs in
-    let sends : group_sends rs ≡ upto (next_id (state_at config h (length h))) =
+    let sends : group_sends rs ≡ upto (next_id (state_at config h b (length h))) =
     ap group_sends (sym all) ∙ i.sends in
-    let count : length (group_sends rs) ≡ next_id (state_at config h (length h)) =
+    let count : length (group_sends rs) ≡ next_id (state_at config h b (length h)) =
     ap length sends ∙ length_upto _ in
     record {
       accepts = ap group_accepts (sym all) ∙ i.accepts;
@@ -285,7 +262,10 @@ order_law config h =
       counted = count;
       ends = ap group_ends (sym all) ∙ i.ends;
       numbers = λ m id number air more e.
-          let s : SendsAt config h m id number air more = sends_at config h m id number air more e in
-          let is : number ≡ (state_at config h m).number % 4096 = cc s.answer in
-          is ∙ ap (λ (n : ℕ). n % 4096) (sym (ordered_at config h m).numbers);
+          let s : SendsAt config h b m id number air more = sends_at config h b m id number air more e in
+          let is : number ≡ (state_at config h b m).number % 4096 = cc s.answer in
+          is ∙ ap (λ (n : ℕ). n % 4096) (sym (ordered_at config h b m).numbers);
     }
+
+pub order_law : (config : Config) (h : List Entry) → GroupOrderLaw config h
+order_law config h b = in_order_at config h b

@@ -7,7 +7,7 @@ use Rattle.std.proofs.lemmas.Nat.{div-add-mod'}
 use Rattle.wf_frame.specs.declared.settings.Config.{Config}
 use Rattle.wf_frame.specs.Settings.{IsInRange}
 use Rattle.wf_frame.specs.declared.classes.Class.{Class}
-use Rattle.wf_frame.specs.declared.notes.Ask.TheVariants.{Join, Leave, Rate, Tick, Pull, Arrive, Answer, Done, Sleep, Wake, Poll, Rx, Reap, Ampdu, Stop, Start, Unsent, GiveUp, Flush, Offload, Weight, Hold, Begin, Free, Cease, Group, Service}
+use Rattle.wf_frame.specs.declared.notes.Ask.TheVariants.{Join, Leave, Rate, Tick, Pull, Arrive, Answer, Done, Sleep, Wake, Poll, Rx, Reap, Ampdu, Stop, Start, Unsent, GiveUp, Flush, Offload, Weight, Hold, Begin, Free, Cease, Group, Service, Bss}
 use Rattle.wf_frame.specs.declared.notes.Ask.TheVariants as call
 use Rattle.wf_frame.specs.declared.notes.Limits.{Limits}
 use Rattle.wf_frame.specs.declared.notes.Note.{Note}
@@ -1126,6 +1126,7 @@ repeats_done (Asked (Group ask)) w i j r h = repeats_calm w _ i j (keep_plain w 
     (record { moves = λ s t. moves_refl (session w s t) }) refl h
 repeats_done (Asked (Service ask)) w i j r h =
     repeats_same w _ i j (same_on_station w (station_served ask) _ (λ x t. refl)) h
+repeats_done (Asked (Bss s b)) w i j r h = repeats_same w _ i j (same_on_station w s _ (λ x t. refl)) h
 
 repeats_refused : (note : Note) (r : Refusal) (w : World) → IsLawful w → Repeats w → Repeats
     (after_refusal w note r)

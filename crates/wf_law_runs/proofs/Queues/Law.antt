@@ -7,7 +7,7 @@ use Rattle.std.proofs.Common.{◌≡◌, refl, sym, subst, arith, ℕ, zero, suc
 use Rattle.std.proofs.lemmas.Bool.{leb-false, ltb-false}
 use Rattle.wf_frame.specs.declared.settings.Config.{Config}
 use Rattle.wf_frame.specs.Settings.{IsInRange}
-use Rattle.wf_frame.specs.declared.notes.Ask.TheVariants.{Join, Leave, Rate, Tick, Pull, Arrive, Answer, Done, Sleep, Wake, Poll, Rx, Reap, Ampdu, Stop, Start, Unsent, GiveUp, Flush, Offload, Weight, Plain, Hold, Begin, Free, Cease, Group, Service}
+use Rattle.wf_frame.specs.declared.notes.Ask.TheVariants.{Join, Leave, Rate, Tick, Pull, Arrive, Answer, Done, Sleep, Wake, Poll, Rx, Reap, Ampdu, Stop, Start, Unsent, GiveUp, Flush, Offload, Weight, Plain, Hold, Begin, Free, Cease, Group, Service, Bss}
 use Rattle.wf_frame.specs.declared.notes.Note.{Note}
 use Rattle.wf_frame.specs.declared.notes.Note.TheVariants.{Enqueue, Asked}
 use Rattle.wf_frame.specs.declared.notes.Refusal.{Refusal}
@@ -93,6 +93,8 @@ shelved_done (Asked Reap) l most w r short p i = subst (IsShelved most) (sym (sh
 shelved_done (Asked (Group ask)) l most w r short p i = i
 shelved_done (Asked (Service ask)) l most w r short p i =
     subst (IsShelved most) (sym (shelves_hidden w (station_served ask) _ (λ x. refl))) i
+shelved_done (Asked (Bss s b)) l most w r short p i =
+    subst (IsShelved most) (sym (shelves_hidden w s _ (λ x. refl))) i
 
 shelved_refused : (note : Note) (r : Refusal) (most : ℕ) (w : World) → IsShelved most (shelves w) →
     IsShelved most (shelves (after_refusal w note r))

@@ -5,6 +5,7 @@ use Rattle.wf_frame.specs.Settings.{IsInRange}
 use Rattle.std.proofs.lemmas.Bool.{and_parts}
 use Rattle.wf_def_lists.specs.Table.{at}
 use Rattle.wf_def_air.specs.Airtime.{is_rate, IsAllowed}
+use Rattle.wf_def_world.specs.Group.{bss_count}
 use Rattle.wf_def_world.specs.World.{World, Station, no_station, station, opening}
 use Rattle.wf_def_world.specs.Run.{Entry}
 use Rattle.wf_def_world.specs.Stretches.{world_at}
@@ -20,9 +21,10 @@ use Rattle.wf_law_runs.proofs.Queues.Shelved.{IsShelved}
 use Rattle.wf_law_runs.proofs.Queues.Law.{longest_in, within, shelved}
 use Rattle.wf_law_runs.proofs.Ranges.Traits.{HasTraits, has_traits}
 
-of_live : (o : Option Station) → is_some o ≡ true → IfSome o HasTraits → HasTraits (unwrap_or o no_station)
-of_live None e h = absurd (cc e)
-of_live (Some x) e h = h
+of_live : (count : ℕ) (o : Option Station) → is_some o ≡ true → IfSome o (HasTraits count) →
+    HasTraits count (unwrap_or o no_station)
+of_live count None e h = absurd (cc e)
+of_live count (Some x) e h = h
 
 is_allowed_kept : (w : World) (s : ℕ) → IsKept (books w) → IsAllowed w.config.legacy (station w s).rate
 is_allowed_kept w s k = (and_parts (is_rate (station w s).rate) _ (rate_kept w s k)).1
@@ -36,7 +38,7 @@ range_law config h range m =
     let a : IsLawful w = lawful config (take m h) in
     record {
       stations = λ s live.
-          let x : HasTraits (station w s) = of_live (at None w.stations s) live
+          let x : HasTraits (bss_count w.config.bsses) (station w s) = of_live _ (at None w.stations s) live
           (has_traits config (take m h) s) in
           record {
             number = subst (λ (c : Config). s < c.stations) (config_run (take m h) (opening config))
@@ -47,6 +49,8 @@ range_law config h range m =
             allowed = subst (λ (c : Config). IsAllowed c.legacy (station w s).rate)
                 (config_run (take m h) (opening config)) (is_allowed_kept w s (kept config (take m h) range));
             ampdu = x.ampdu;
+            bss = subst (λ (c : Config). (station w s).bss < bss_count c.bsses)
+                (config_run (take m h) (opening config)) x.bss;
             credit = x.credit;
             delivery = x.delivery;
             service = x.service;

@@ -10,7 +10,7 @@ use Rattle.wf_def_agreement.specs.Session.{Session, Slot, slot, with_number_give
 use Rattle.wf_def_world.specs.World.{receiver, World, Station, Tid, Frame, no_frame, Exchange, Content, Frames, Request, new_tid, is_wide, session, exchange, with_station, on_tid, on_session, on_receiver, on_queue, with_exchange, opening, new_queue, queue, accepted_count, Mode}
 use Rattle.wf_def_world.specs.FlowQueues.{after_limit, with_appended, after_put_in, queue_for}
 use Rattle.wf_def_world.specs.Exchanges.{transmissions, no_mpdu, picked_station, after_arrival, with_heard_start, mpdus_of, ids_of}
-use Rattle.wf_frame.specs.declared.notes.Ask.TheVariants.{Join, Leave, Rate, Tick, Pull, Arrive, Answer, Done, Sleep, Wake, Poll, Rx, Reap, Ampdu, Stop, Start, Unsent, GiveUp, Flush, Offload, Weight, Hold, Begin, Free, Cease, Group, Service}
+use Rattle.wf_frame.specs.declared.notes.Ask.TheVariants.{Join, Leave, Rate, Tick, Pull, Arrive, Answer, Done, Sleep, Wake, Poll, Rx, Reap, Ampdu, Stop, Start, Unsent, GiveUp, Flush, Offload, Weight, Hold, Begin, Free, Cease, Group, Service, Bss}
 use Rattle.wf_frame.specs.declared.notes.Ask.TheVariants as call
 use Rattle.wf_frame.specs.declared.notes.Note.{Note}
 use Rattle.wf_frame.specs.declared.notes.Note.TheVariants.{Enqueue, Asked}
@@ -698,6 +698,7 @@ named_done (Asked (Free s t)) w = inl refl
 named_done (Asked (Cease s t)) w = inr (inr (s, t, refl))
 named_done (Asked (Group ask)) w = inl refl
 named_done (Asked (Service ask)) w = inl refl
+named_done (Asked (Bss s b)) w = inl refl
 
 pub placed_at_first : (config : Config) → Placing [] (opening config)
 placed_at_first config = record {

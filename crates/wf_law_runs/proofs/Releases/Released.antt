@@ -10,8 +10,8 @@ use Rattle.wf_def_world.specs.Service.{station_served}
 use Rattle.wf_frame.specs.Classes.{all_classes}
 use Rattle.wf_def_world.specs.CanSend.{with_listings_of}
 use Rattle.wf_def_world.specs.Exchanges.{transmissions, no_mpdu, after_arrival, mpdus_of, ids_of, caught_up, with_heard_start}
-use Rattle.wf_frame.specs.declared.notes.GroupAsk.{GroupAsk}
-use Rattle.wf_frame.specs.declared.notes.Ask.TheVariants.{Join, Leave, Rate, Tick, Pull, Arrive, Answer, Done, Sleep, Wake, Poll, Rx, Reap, Ampdu, Stop, Start, Unsent, GiveUp, Flush, Offload, Weight, Hold, Begin, Free, Cease, Group, Service}
+use Rattle.wf_frame.specs.declared.notes.GroupCall.{GroupCall}
+use Rattle.wf_frame.specs.declared.notes.Ask.TheVariants.{Join, Leave, Rate, Tick, Pull, Arrive, Answer, Done, Sleep, Wake, Poll, Rx, Reap, Ampdu, Stop, Start, Unsent, GiveUp, Flush, Offload, Weight, Hold, Begin, Free, Cease, Group, Service, Bss}
 use Rattle.wf_frame.specs.declared.notes.Ask.TheVariants as call
 use Rattle.wf_frame.specs.declared.notes.AskedRate.{AskedRate}
 use Rattle.wf_frame.specs.declared.notes.Note.{Note}
@@ -20,7 +20,7 @@ use Rattle.wf_frame.specs.declared.notes.ServiceAsk.{ServiceAsk}
 use Rattle.wf_frame.specs.declared.notes.Refusal.{Refusal}
 use Rattle.wf_frame.specs.declared.notes.Refusal.TheVariants.{Idle}
 use Rattle.wf_def_world.specs.Refusals.{refusals, refusal}
-use Rattle.wf_def_world.specs.Step.{Outcome, new_station, join_outcome, offload_outcome, weight_outcome, after_tids_left, without_listings, leave_outcome, rate_outcome, tick_outcome, enqueue_outcome, pull_outcome, arrive_outcome, answer_outcome, unsent_outcome, give_up_outcome, flush_outcome, done_outcome, outcome_where_open, sleep_outcome, wake_outcome, poll_outcome, rx_outcome, reap_outcome, outcome_of, after_refusal, judged_outcome, step, concerned_station, ampdu_outcome, stop_outcome, start_outcome, group_outcome, plain_outcome, plain_window, hold_outcome, begin_outcome, free_outcome, cease_outcome, after_numbers_ended, service_outcome}
+use Rattle.wf_def_world.specs.Step.{Outcome, new_station, join_outcome, offload_outcome, weight_outcome, after_tids_left, without_listings, leave_outcome, rate_outcome, tick_outcome, enqueue_outcome, pull_outcome, arrive_outcome, answer_outcome, unsent_outcome, give_up_outcome, flush_outcome, done_outcome, outcome_where_open, sleep_outcome, wake_outcome, poll_outcome, rx_outcome, reap_outcome, outcome_of, after_refusal, judged_outcome, step, concerned_station, ampdu_outcome, stop_outcome, start_outcome, group_outcome, plain_outcome, plain_window, hold_outcome, begin_outcome, free_outcome, cease_outcome, after_numbers_ended, service_outcome, bss_outcome}
 use Rattle.wf_def_world.specs.Run.{Entry, world_after}
 use Rattle.wf_law_rules.proofs.Lemmas.Tables.{at_put_same, at_put_other}
 use Rattle.wf_law_rules.proofs.Lemmas.Numbers.{Climbs, on_bool, on_if, lt_yes, lt_no, eq_yes, eq_no, yes_eq, either, both, and_true, or_left, or_right, has_old, climbs_with, greatest_least, greatest_has, greatest_within, missing_not}
@@ -370,11 +370,14 @@ pub keep_tick : (w : World) (by : ℕ) → Kept w (tick_outcome w by).world
 unfolding tick_outcome
 keep_tick w by = keep_plain w _ refl
 
-pub keep_group : (w : World) (ask : GroupAsk) → Kept w (group_outcome w ask).world
+pub keep_group : (w : World) (ask : GroupCall) → Kept w (group_outcome w ask).world
 keep_group w ask = keep_plain w _ refl
 
 pub keep_served : (w : World) (ask : ServiceAsk) → Kept w (service_outcome w ask).world
 keep_served w ask = keep_station w (station_served ask) _ (λ x t. refl)
+
+pub keep_moved : (w : World) (a b : ℕ) → Kept w (bss_outcome w a b).world
+keep_moved w a b = keep_station w a _ (λ x t. refl)
 
 pub keep_slept : (w : World) (a : ℕ) → Kept w (sleep_outcome w a).world
 unfolding sleep_outcome
@@ -645,6 +648,9 @@ passed_done (Asked (Group ask)) w i j s t l e h =
 passed_done (Asked (Service ask)) w i j s t l e h =
     passed_quiet w (Asked (Service ask)) (service_outcome w ask) s t l refl refl refl
     (passed_kept w _ s t l i j (keep_served w ask) h)
+passed_done (Asked (Bss a b)) w i j s t l e h =
+    passed_quiet w (Asked (Bss a b)) (bss_outcome w a b) s t l refl refl refl
+    (passed_kept w _ s t l i j (keep_moved w a b) h)
 
 -- ---- the run
 

@@ -15,7 +15,7 @@ use Rattle.wf_frame.specs.Classes.{all_classes}
 use Rattle.wf_def_world.specs.FlowQueues.{taken_for_tid}
 use Rattle.wf_def_world.specs.CanSend.{is_ready, can_give}
 use Rattle.wf_def_world.specs.Exchanges.{caught_up, caught_up_if_plain, end_of, transmissions, station_need, most_frames, picked_station, after_arrival, sending_tid, with_heard_start, Prepared, after_tid_turn, with_fresh, aggregate_of, with_number, with_flying, waiting_mpdus, longest_fitting, prepared_data, prepared_exchange, with_exchange_opened, after_charge, with_failed_finished, with_settled, with_all_settled, after_done, ids_of, Aggregate, exchange_of}
-use Rattle.wf_frame.specs.declared.notes.Ask.TheVariants.{Join, Leave, Rate, Tick, Pull, Arrive, Answer, Done, Sleep, Wake, Poll, Rx, Reap, Ampdu, Stop, Start, Unsent, GiveUp, Flush, Offload, Weight, Hold, Begin, Free, Cease, Group, Service}
+use Rattle.wf_frame.specs.declared.notes.Ask.TheVariants.{Join, Leave, Rate, Tick, Pull, Arrive, Answer, Done, Sleep, Wake, Poll, Rx, Reap, Ampdu, Stop, Start, Unsent, GiveUp, Flush, Offload, Weight, Hold, Begin, Free, Cease, Group, Service, Bss}
 use Rattle.wf_frame.specs.declared.notes.Ask.TheVariants as call
 use Rattle.wf_frame.specs.declared.notes.Limits.{Limits}
 use Rattle.wf_frame.specs.declared.notes.Note.{Note}
@@ -546,6 +546,7 @@ module _ (P : List ℕ → World → Type 0) (Good : World → Type 0)
   through_call (Asked (Group ask)) l w i g e p r = plain l w _ (less_plain Any w _ refl refl) (λ s t. refl) p
   through_call (Asked (Service ask)) l w i g e p r =
       through_on_station l w (station_served ask) _ (λ x t. refl) p
+  through_call (Asked (Bss s b)) l w i g e p r = through_on_station l w s _ (λ x t. refl) p
 
   through_arrival : (l : List ℕ) (w : World) (i : IsLawful w) (e n : ℕ) → Good w →
       NoRow (refusals w (Asked (Arrive e n))) → P l w →

@@ -4,7 +4,7 @@ use Rattle.std.proofs.Common.{◌≡◌, refl, ap, sym, ◌∙◌, subst, arith,
 use Rattle.std.proofs.lemmas.List.{length-append}
 use Rattle.wf_frame.specs.declared.settings.Config.{Config}
 use Rattle.wf_frame.specs.declared.classes.Class.{Class}
-use Rattle.wf_frame.specs.declared.notes.Ask.TheVariants.{Join, Leave, Rate, Tick, Pull, Arrive, Answer, Done, Sleep, Wake, Poll, Rx, Reap, Ampdu, Stop, Start, Unsent, GiveUp, Flush, Offload, Weight, Plain, Hold, Begin, Free, Cease, Group, Service}
+use Rattle.wf_frame.specs.declared.notes.Ask.TheVariants.{Join, Leave, Rate, Tick, Pull, Arrive, Answer, Done, Sleep, Wake, Poll, Rx, Reap, Ampdu, Stop, Start, Unsent, GiveUp, Flush, Offload, Weight, Plain, Hold, Begin, Free, Cease, Group, Service, Bss}
 use Rattle.wf_frame.specs.declared.notes.Limits.{Limits}
 use Rattle.wf_frame.specs.declared.notes.Note.{Note}
 use Rattle.wf_frame.specs.declared.notes.Note.TheVariants.{Enqueue, Asked}
@@ -435,6 +435,8 @@ some_done (Asked (Cease s t)) w l a h = some_opened w (cease_outcome w s t).worl
 some_done (Asked (Group ask)) w l a h = h
 some_done (Asked (Service ask)) w l a h = subst (Each HasSome)
     (sym (same_on_station w (station_served ask) _ (λ x t. refl)).opened) h
+some_done (Asked (Bss s b)) w l a h = subst (Each HasSome)
+    (sym (same_on_station w s _ (λ x t. refl)).opened) h
 
 some_refused : (note : Note) (r : Refusal) (w : World) → AllSome w → AllSome (after_refusal w note r)
 unfolding after_refusal
@@ -466,7 +468,7 @@ fit w k i h = record {
 }
   where
     few : AreFew w
-    few s = few_station (at None w.stations s) (h s)
+    few s = few_station _ (at None w.stations s) (h s)
 
 some_run : (h : List Entry) (l : List ℕ) (w : World) → AreAtMost greatest_body h → IsKept (books w) →
     Steady l w → IsStocked greatest_body w → Traits w

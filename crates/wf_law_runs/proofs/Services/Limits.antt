@@ -47,7 +47,7 @@ open_with classes most left =
 -- Some frames are left of an open service period with a limit.
 some_left : (w : World) (s classes most left : ℕ) → Traits w → nap_at w s ≡ open_with classes most left →
     0 < most → 1 ≤ left
-some_left w s classes most left h is some = go (at None w.stations s) (h s)
+some_left w s classes most left h is some = go _ (at None w.stations s) (h s)
     (ap (λ (z : Station). z.most) is) (ap (λ (z : Station). z.service) is)
   where
     here : (a : ℕ) (o : Option ℕ) (sleeps : Bool) → IfSome o (IsOpenService sleeps a) → a ≡ most →
@@ -56,10 +56,10 @@ some_left w s classes most left h is some = go (at None w.stations s) (h s)
     here a (Some b) sleeps k same is =
         let e : b ≡ left = cc is in omega (arith, k.some (omega (arith, some, same)), e)
 
-    go : (o : Option Station) → IfSome (option_map trait o) IsTrait → (unwrap_or o no_station).most ≡ most →
-        (unwrap_or o no_station).service ≡ Some left → 1 ≤ left
-    go None k same is = absurd (cc is)
-    go (Some x) k same is = here x.most x.service x.asleep k.service same is
+    go : (count : ℕ) (o : Option Station) → IfSome (option_map trait o) (IsTrait count) →
+        (unwrap_or o no_station).most ≡ most → (unwrap_or o no_station).service ≡ Some left → 1 ≤ left
+    go count None k same is = absurd (cc is)
+    go count (Some x) k same is = here x.most x.service x.asleep k.service same is
 
 -- ---- one call
 

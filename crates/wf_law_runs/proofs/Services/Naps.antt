@@ -1,7 +1,7 @@
 -- Proves that few calls change the part of a station that its service periods depend on: whether it sleeps,
 -- its delivery-enabled classes, its limit and its open service period.
 use Rattle.std.proofs.Common.{◌≡◌, refl, sym, ◌∙◌, ap, ℕ, false, Option, Some, None, is_some, option_map, unwrap_or}
-use Rattle.wf_frame.specs.declared.notes.Ask.TheVariants.{Join, Leave, Rate, Pull, Sleep, Wake, Poll, Ampdu, Offload, Weight, Plain, Service}
+use Rattle.wf_frame.specs.declared.notes.Ask.TheVariants.{Join, Leave, Rate, Pull, Sleep, Wake, Poll, Ampdu, Offload, Weight, Plain, Service, Bss}
 use Rattle.wf_frame.specs.declared.notes.Note.{Note}
 use Rattle.wf_frame.specs.declared.notes.Note.TheVariants.{Asked}
 use Rattle.wf_frame.specs.declared.notes.Refusal.{Refusal}
@@ -86,6 +86,7 @@ changes (Asked (Wake i)) w s apart rows = λ x e k is. absurd (apart is)
 changes (Asked (Poll i)) w s apart rows = λ x e k. k
 changes (Asked (Ampdu i octets)) w s apart rows = λ x e k. k
 changes (Asked (Service ask)) w s apart rows = λ x e k is. absurd (apart is)
+changes (Asked (Bss i b)) w s apart rows = λ x e k. k
 changes (Asked (Pull c limits)) w s apart rows = absurd apart
 changes _ w s apart rows = tt
 

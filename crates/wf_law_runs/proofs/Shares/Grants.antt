@@ -5,7 +5,7 @@ use Rattle.std.proofs.Common.{◌≡◌, refl, ap, sym, ◌∙◌, subst, arith,
 use Rattle.std.proofs.lemmas.Int.{ints}
 use Rattle.wf_frame.specs.declared.settings.Config.{Config}
 use Rattle.wf_frame.specs.declared.classes.Class.{Class}
-use Rattle.wf_frame.specs.declared.notes.Ask.TheVariants.{Join, Leave, Rate, Tick, Pull, Arrive, Answer, Done, Sleep, Wake, Poll, Rx, Reap, Ampdu, Stop, Start, Unsent, GiveUp, Flush, Offload, Weight, Plain, Hold, Begin, Free, Cease, Group, Service}
+use Rattle.wf_frame.specs.declared.notes.Ask.TheVariants.{Join, Leave, Rate, Tick, Pull, Arrive, Answer, Done, Sleep, Wake, Poll, Rx, Reap, Ampdu, Stop, Start, Unsent, GiveUp, Flush, Offload, Weight, Plain, Hold, Begin, Free, Cease, Group, Service, Bss}
 use Rattle.wf_frame.specs.declared.notes.Limits.{Limits}
 use Rattle.wf_frame.specs.declared.notes.Note.{Note}
 use Rattle.wf_frame.specs.declared.notes.Note.TheVariants.{Enqueue, Asked}
@@ -26,7 +26,7 @@ use Rattle.wf_law_runs.specs.Waiting.{sends}
 use Rattle.wf_law_runs.proofs.Common.Refused.{after_idle}
 use Rattle.wf_law_runs.proofs.Common.Limits.{with_limits}
 use Rattle.wf_law_runs.proofs.Deficits.Books.{Account, account, core, Books, books, with_account, on_part, upd_same, upd_other, each_upd, updc_same, updc_other, cases_class}
-use Rattle.wf_law_runs.proofs.Deficits.BookSteps.{with_opened, charge_share, with_charge, receive_share, rated, pay_share, paid, after, books_ended, books_gone, all_off, books_enqueued, books_received, books_reaped, books_slept, books_woken, books_credited, books_with_rate, books_joined, books_after_pick, books_stated, books_stopped, books_started, books_flushed, books_offloaded, books_weighed, reweighed, books_joined_plain, books_held, books_begun, books_freed, books_ceased, books_served}
+use Rattle.wf_law_runs.proofs.Deficits.BookSteps.{with_opened, charge_share, with_charge, receive_share, rated, pay_share, paid, after, books_ended, books_gone, all_off, books_enqueued, books_received, books_reaped, books_slept, books_woken, books_credited, books_with_rate, books_joined, books_after_pick, books_stated, books_stopped, books_started, books_flushed, books_offloaded, books_weighed, reweighed, books_joined_plain, books_held, books_begun, books_freed, books_ceased, books_served, books_moved}
 use Rattle.wf_law_runs.proofs.Deficits.Bounds.{counted, paid_some}
 use Rattle.wf_law_runs.proofs.Deficits.Kept.{IsKept, counted_in, need_in, at_stake, IsOpen}
 use Rattle.wf_law_runs.proofs.Deficits.KeptStep.{NoRow, no_row, live_account, is_pick, IsFound, books_arrived, books_unsent, books_given_up, books_answered}
@@ -234,6 +234,7 @@ grants_done (Asked (Rx i d air)) w c s r k live still =
 grants_done (Asked Reap) w c s r k live still = grants_same c s _ _ (books_reaped w.finished w)
 grants_done (Asked (Group ask)) w c s r k live still = grants_same c s _ _ refl
 grants_done (Asked (Service ask)) w c s r k live still = grants_same c s _ _ (books_served w ask)
+grants_done (Asked (Bss i b)) w c s r k live still = grants_same c s _ _ (books_moved w i b)
 
 grants_refused : (note : Note) (r : Refusal) (w : World) (c : Class) (s : ℕ) → IsKept (books w) →
     Grants c s (books w) (books (after_refusal w note r))

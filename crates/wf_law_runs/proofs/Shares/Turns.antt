@@ -5,7 +5,7 @@ use Rattle.std.proofs.lemmas.Bool.{cases_eq, ne_eqb, eqb-true, and_parts, not-tr
 use Rattle.wf_frame.specs.declared.settings.Config.{Config}
 use Rattle.wf_frame.specs.declared.classes.Class.{Class}
 use Rattle.wf_frame.specs.declared.classes.Class.TheVariants.{Bk, Be, Vi, Vo}
-use Rattle.wf_frame.specs.declared.notes.Ask.TheVariants.{Join, Leave, Rate, Tick, Pull, Arrive, Answer, Done, Sleep, Wake, Poll, Rx, Reap, Ampdu, Stop, Start, Unsent, GiveUp, Flush, Offload, Weight, Plain, Hold, Begin, Free, Cease, Group, Service}
+use Rattle.wf_frame.specs.declared.notes.Ask.TheVariants.{Join, Leave, Rate, Tick, Pull, Arrive, Answer, Done, Sleep, Wake, Poll, Rx, Reap, Ampdu, Stop, Start, Unsent, GiveUp, Flush, Offload, Weight, Plain, Hold, Begin, Free, Cease, Group, Service, Bss}
 use Rattle.wf_frame.specs.declared.notes.Limits.{Limits}
 use Rattle.wf_frame.specs.declared.notes.Note.{Note}
 use Rattle.wf_frame.specs.declared.notes.Note.TheVariants.{Enqueue, Asked}
@@ -27,7 +27,7 @@ use Rattle.wf_law_rules.proofs.Lemmas.Rotations.{IsWinner, pick_keeps, pick_winn
 use Rattle.wf_law_runs.proofs.Common.Refused.{after_idle}
 use Rattle.wf_law_runs.proofs.Common.Limits.{with_limits}
 use Rattle.wf_law_runs.proofs.Deficits.Books.{Account, account, core, Books, books, with_account, with_lists, upd_same, updc, updc_same, updc_other, cases_class, same_number, books_with_rotation}
-use Rattle.wf_law_runs.proofs.Deficits.BookSteps.{books_after_turn, books_prepared, books_sent, with_opened, books_ended, books_gone, all_off, books_enqueued, books_received, books_reaped, books_slept, books_woken, books_credited, books_with_rate, fresh_account, books_joined, after, books_after_pick, books_stated, books_stopped, books_started, books_flushed, books_offloaded, books_weighed, books_joined_plain, books_held, books_begun, books_freed, books_ceased, books_served}
+use Rattle.wf_law_runs.proofs.Deficits.BookSteps.{books_after_turn, books_prepared, books_sent, with_opened, books_ended, books_gone, all_off, books_enqueued, books_received, books_reaped, books_slept, books_woken, books_credited, books_with_rate, fresh_account, books_joined, after, books_after_pick, books_stated, books_stopped, books_started, books_flushed, books_offloaded, books_weighed, books_joined_plain, books_held, books_begun, books_freed, books_ceased, books_served, books_moved}
 use Rattle.wf_law_runs.proofs.Deficits.Openings.{reserved, reserved-append, reserved-ended, part_of}
 use Rattle.wf_law_runs.proofs.Deficits.Kept.{IsKept, if_same, above_after, listed-on, counted_in, standing_of}
 use Rattle.wf_law_runs.proofs.Deficits.KeptStep.{NoRow, no_row, live_account, need_is, IsFound, at_number, books_arrived, books_unsent, books_given_up, books_answered, charge_within}
@@ -621,6 +621,8 @@ move_done (Asked (Group ask)) w c s i r kept differs h =
     move_same _ c s i _ _ (stays_listed c s i w _ h) refl
 move_done (Asked (Service ask)) w c s i r kept differs h =
     move_same _ c s i _ _ (stays_listed c s i w _ h) (books_served w ask)
+move_done (Asked (Bss k b)) w c s i r kept differs h =
+    move_same _ c s i _ _ (stays_listed c s i w _ h) (books_moved w k b)
 
 move_refused : (note : Note) (r : Refusal) (w : World) (c : Class) (s i : ℕ) → IsKept (books w) →
     (s ≡ i → ⊥) → Stays c s i w (books (after_refusal w note r)) →

@@ -3,7 +3,7 @@
 use Rattle.std.proofs.Common.{◌≡◌, refl, sym, ◌∙◌, subst, ℕ, ◌<◌, Bool, false, Option, Some, None, is_some, IfSome, option_map, ◌==◌, find, eq-eqb}
 use Rattle.std.proofs.lemmas.Bool.{and_parts, not-false, leb-true}
 use Rattle.wf_frame.specs.declared.classes.Class.{Class}
-use Rattle.wf_frame.specs.declared.notes.Ask.TheVariants.{Join, Leave, Rate, Tick, Pull, Arrive, Answer, Done, Sleep, Wake, Poll, Rx, Reap, Ampdu, Stop, Start, Unsent, GiveUp, Flush, Offload, Weight, Plain, Hold, Begin, Free, Cease, Group, Service}
+use Rattle.wf_frame.specs.declared.notes.Ask.TheVariants.{Join, Leave, Rate, Tick, Pull, Arrive, Answer, Done, Sleep, Wake, Poll, Rx, Reap, Ampdu, Stop, Start, Unsent, GiveUp, Flush, Offload, Weight, Plain, Hold, Begin, Free, Cease, Group, Service, Bss}
 use Rattle.wf_frame.specs.declared.notes.AskedRate.{AskedRate}
 use Rattle.wf_frame.specs.declared.notes.Limits.{Limits}
 use Rattle.wf_frame.specs.declared.notes.Note.{Note}
@@ -21,7 +21,7 @@ use Rattle.wf_law_runs.specs.Shares.{ChargesWithin}
 use Rattle.wf_law_runs.proofs.Common.Refused.{if_idle}
 use Rattle.wf_law_runs.proofs.Common.Limits.{with_limits}
 use Rattle.wf_law_runs.proofs.Deficits.Books.{core, Books, books, with_account, on_part}
-use Rattle.wf_law_runs.proofs.Deficits.BookSteps.{with_opened, with_charge, without, receive_share, rated, after, books_ended, books_gone, all_off, books_enqueued, books_received, books_reaped, books_slept, books_woken, books_credited, books_with_rate, fresh_account, books_joined, books_after_pick, books_stated, books_stopped, books_started, books_flushed, books_offloaded, books_weighed, with_weight, books_joined_plain, books_held, books_begun, books_freed, books_ceased, books_served}
+use Rattle.wf_law_runs.proofs.Deficits.BookSteps.{with_opened, with_charge, without, receive_share, rated, after, books_ended, books_gone, all_off, books_enqueued, books_received, books_reaped, books_slept, books_woken, books_credited, books_with_rate, fresh_account, books_joined, books_after_pick, books_stated, books_stopped, books_started, books_flushed, books_offloaded, books_weighed, with_weight, books_joined_plain, books_held, books_begun, books_freed, books_ceased, books_served, books_moved}
 use Rattle.wf_law_runs.proofs.Deficits.Kept.{IsKept}
 use Rattle.wf_law_runs.proofs.Deficits.KeptStep.{NoRow, no_row, live_account, IsFound, at_number, books_arrived, books_unsent, books_given_up, books_answered, kept_done}
 use Rattle.wf_law_runs.proofs.Deficits.Listing.{IsLonger, longer_listed}
@@ -122,6 +122,7 @@ module _ (err : ℕ) (w : World) (P : Books → Type 0) (kept : IsKept (books w)
   changes_done (Asked Reap) fine r near k = changed _ _ (books_reaped w.finished w) p.same
   changes_done (Asked (Group ask)) fine r near k = p.same
   changes_done (Asked (Service ask)) fine r near k = changed _ _ (books_served w ask) p.same
+  changes_done (Asked (Bss i b)) fine r near k = changed _ _ (books_moved w i b) p.same
 
   changes_refused : (note : Note) (r : Refusal) → w.config.pending ≡ 1 → P (books (after_refusal w note r))
   unfolding after_refusal

@@ -4,7 +4,7 @@ use Rattle.std.proofs.Common.{◌≡◌, refl, ap, sym, ◌∙◌, subst, arith,
 use Rattle.std.proofs.lemmas.Bool.{cases_eq, ne_eqb}
 use Rattle.wf_frame.specs.declared.settings.Config.{Config}
 use Rattle.wf_frame.specs.declared.classes.Class.{Class}
-use Rattle.wf_frame.specs.declared.notes.Ask.TheVariants.{Join, Leave, Rate, Tick, Pull, Arrive, Answer, Done, Sleep, Wake, Poll, Rx, Reap, Ampdu, Stop, Start, Unsent, GiveUp, Flush, Offload, Weight, Plain, Hold, Begin, Free, Cease, Group, Service}
+use Rattle.wf_frame.specs.declared.notes.Ask.TheVariants.{Join, Leave, Rate, Tick, Pull, Arrive, Answer, Done, Sleep, Wake, Poll, Rx, Reap, Ampdu, Stop, Start, Unsent, GiveUp, Flush, Offload, Weight, Plain, Hold, Begin, Free, Cease, Group, Service, Bss}
 use Rattle.wf_frame.specs.declared.notes.Note.{Note}
 use Rattle.wf_frame.specs.declared.notes.Note.TheVariants.{Enqueue, Asked}
 use Rattle.wf_frame.specs.declared.notes.Refusal.{Refusal}
@@ -21,7 +21,7 @@ use Rattle.wf_frame.specs.Settings.{IsInRange}
 use Rattle.wf_law_runs.specs.Sums.{since_join, air_by, charged_over, received_over}
 use Rattle.wf_law_runs.proofs.Common.Refused.{after_idle}
 use Rattle.wf_law_runs.proofs.Deficits.Books.{Account, account, Books, books, with_account, on_part, upd_same, upd_other, each_upd, updc_same, updc_other, each_updc, cases_class}
-use Rattle.wf_law_runs.proofs.Deficits.BookSteps.{books_ended, books_gone, all_off, books_enqueued, receive_share, books_received, books_reaped, books_slept, books_woken, books_credited, rated, books_with_rate, fresh_account, books_joined, charge_share, pay_share, after, books_after_pick, books_stated, books_stopped, books_started, books_flushed, books_offloaded, books_weighed, reweighed, books_joined_plain, books_held, books_begun, books_freed, books_ceased, books_served}
+use Rattle.wf_law_runs.proofs.Deficits.BookSteps.{books_ended, books_gone, all_off, books_enqueued, receive_share, books_received, books_reaped, books_slept, books_woken, books_credited, rated, books_with_rate, fresh_account, books_joined, charge_share, pay_share, after, books_after_pick, books_stated, books_stopped, books_started, books_flushed, books_offloaded, books_weighed, reweighed, books_joined_plain, books_held, books_begun, books_freed, books_ceased, books_served, books_moved}
 use Rattle.wf_law_runs.proofs.Deficits.Kept.{IsKept, if_map}
 use Rattle.wf_law_runs.proofs.Deficits.KeptStep.{IsFound, books_arrived, books_unsent, books_given_up, books_answered, kept_step, kept_opening}
 use Rattle.wf_law_runs.proofs.Fairness.OldOrder.{calm_pulled, owing, owing_done, owing_refused}
@@ -264,6 +264,8 @@ sum_done (Asked (Rx i d air)) w c p q s k h = sum_received w i d air c p q s h
 sum_done (Asked Reap) w c p q s k h = still c p q _ (sum_books c p q s _ _ (books_reaped w.finished w) h)
 sum_done (Asked (Group ask)) w c p q s k h = still c p q _ h
 sum_done (Asked (Service ask)) w c p q s k h = still c p q _ (sum_books c p q s _ _ (books_served w ask) h)
+sum_done (Asked (Bss i b)) w c p q s k h =
+    still c p q _ (sum_books c p q s _ _ (books_moved w i b) h)
 
 sum_refused : (note : Note) (r : Refusal) (w : World) (c : Class) (p q s : ℕ) →
     HasSum c p q ((books w).accounts s) → HasSum c p q ((books (after_refusal w note r)).accounts s)

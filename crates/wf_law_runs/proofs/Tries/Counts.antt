@@ -5,7 +5,7 @@ use Rattle.std.proofs.lemmas.List.Sums.{sum_by-cons}
 use Rattle.wf_frame.specs.declared.settings.Config.{Config}
 use Rattle.wf_frame.specs.declared.classes.Class.{Class}
 use Rattle.wf_frame.specs.declared.classes.Fate.{Fate}
-use Rattle.wf_frame.specs.declared.notes.Ask.TheVariants.{Join, Leave, Rate, Tick, Pull, Arrive, Answer, Done, Sleep, Wake, Poll, Rx, Reap, Ampdu, Stop, Start, Unsent, GiveUp, Flush, Offload, Weight, Plain, Hold, Begin, Free, Cease, Group, Service}
+use Rattle.wf_frame.specs.declared.notes.Ask.TheVariants.{Join, Leave, Rate, Tick, Pull, Arrive, Answer, Done, Sleep, Wake, Poll, Rx, Reap, Ampdu, Stop, Start, Unsent, GiveUp, Flush, Offload, Weight, Plain, Hold, Begin, Free, Cease, Group, Service, Bss}
 use Rattle.wf_frame.specs.declared.notes.Limits.{Limits}
 use Rattle.wf_frame.specs.declared.notes.Note.{Note}
 use Rattle.wf_frame.specs.declared.notes.Note.TheVariants.{Enqueue, Asked}
@@ -22,7 +22,7 @@ use Rattle.wf_def_world.specs.FlowQueues.{taken_for_tid, after_limit, after_put_
 use Rattle.wf_def_world.specs.CanSend.{can_send_in, can_give}
 use Rattle.wf_def_world.specs.Exchanges.{Aggregate, Prepared, most_frames, end_of, numbers_unsent, mpdus_of, part_of, picked_station, sending_tid, waiting_mpdus, longest_fitting, with_number, with_fresh, aggregate_of, with_flying, prepared_data, prepared_exchange, with_exchange_opened, after_tid_turn, after_arrival, after_charge, with_failed_finished, with_settled, with_all_settled, with_heard_start, after_done, caught_up, caught_up_if_plain}
 use Rattle.wf_def_world.specs.Refusals.{refusal}
-use Rattle.wf_def_world.specs.Step.{Outcome, with_frame, enqueue_outcome, join_outcome, leave_outcome, rate_outcome, tick_outcome, send_outcome, pull_outcome_for, pull_outcome, arrive_outcome, answer_outcome, done_outcome, outcome_where_open, sleep_outcome, wake_outcome, poll_outcome, rx_outcome, reap_outcome, unsent_outcome, give_up_outcome, flush_outcome, outcome_of, concerned_station, after_refusal, judged_outcome, step, ampdu_outcome, stop_outcome, start_outcome, group_outcome, offload_outcome, weight_outcome, plain_outcome, plain_window, hold_outcome, begin_outcome, free_outcome, cease_outcome, after_numbers_ended, waiting_ids, answer_reply, new_station, service_outcome}
+use Rattle.wf_def_world.specs.Step.{Outcome, with_frame, enqueue_outcome, join_outcome, leave_outcome, rate_outcome, tick_outcome, send_outcome, pull_outcome_for, pull_outcome, arrive_outcome, answer_outcome, done_outcome, outcome_where_open, sleep_outcome, wake_outcome, poll_outcome, rx_outcome, reap_outcome, unsent_outcome, give_up_outcome, flush_outcome, outcome_of, concerned_station, after_refusal, judged_outcome, step, ampdu_outcome, stop_outcome, start_outcome, group_outcome, offload_outcome, weight_outcome, plain_outcome, plain_window, hold_outcome, begin_outcome, free_outcome, cease_outcome, after_numbers_ended, waiting_ids, answer_reply, new_station, service_outcome, bss_outcome}
 use Rattle.wf_def_world.specs.Run.{Entry, world_after}
 use Rattle.wf_law_runs.specs.Tries.{count_of, count_in_part, tries_by, tries, count_among, unsent_in, unsent_by, unsent, IsCounted}
 use Rattle.wf_law_rules.proofs.Lemmas.Numbers.{on_bool, on_if, eq_yes, eq_no, yes_eq, not_eq, both, and_true}
@@ -1133,6 +1133,8 @@ counts_done (Asked (Group ask)) l n w i a p c = counts_plain n (group_outcome w 
     (counts_less n w _ (λ s t. refl) (less_plain Any w _ refl refl) c)
 counts_done (Asked (Service ask)) l n w i a p c = counts_plain n (service_outcome w ask) (λ k. refl)
     (counts_on_station n w (station_served ask) _ (λ x t. refl) c)
+counts_done (Asked (Bss s b)) l n w i a p c = counts_plain n (bss_outcome w s b) (λ k. refl)
+    (counts_on_station n w s _ (λ x t. refl) c)
 
 counts_refused : (note : Note) (r : Refusal) (n : Count) (w : World) → Counts n w →
     Counts n (after_refusal w note r)

@@ -2,7 +2,7 @@
 -- none. By cases of the call.
 use Rattle.std.proofs.Common.{◌≡◌, refl, sym, subst, ℕ, Bool, true, false, ◌⊎◌, inl, inr, List, [], ◌∷◌, ◌++◌, Option, Some, None}
 use Rattle.wf_frame.specs.declared.classes.Class.{Class}
-use Rattle.wf_frame.specs.declared.notes.Ask.TheVariants.{Join, Leave, Rate, Tick, Pull, Arrive, Answer, Done, Sleep, Wake, Poll, Rx, Reap, Ampdu, Stop, Start, Unsent, GiveUp, Flush, Offload, Weight, Plain, Hold, Begin, Free, Cease, Group, Service}
+use Rattle.wf_frame.specs.declared.notes.Ask.TheVariants.{Join, Leave, Rate, Tick, Pull, Arrive, Answer, Done, Sleep, Wake, Poll, Rx, Reap, Ampdu, Stop, Start, Unsent, GiveUp, Flush, Offload, Weight, Plain, Hold, Begin, Free, Cease, Group, Service, Bss}
 use Rattle.wf_frame.specs.declared.notes.Limits.{Limits}
 use Rattle.wf_frame.specs.declared.notes.Note.{Note}
 use Rattle.wf_frame.specs.declared.notes.Note.TheVariants.{Enqueue, Asked}
@@ -129,6 +129,7 @@ none_done (Asked (Free s t)) w = inr (nothing _ (λ k. refl) refl refl (λ s. re
 none_done (Asked (Cease s t)) w = inr (nothing _ (λ k. refl) refl refl (λ s. refl))
 none_done (Asked (Group ask)) w = inr (nothing _ (λ k. refl) refl refl (λ s. refl))
 none_done (Asked (Service ask)) w = inr (nothing _ (λ k. refl) refl refl (λ s. refl))
+none_done (Asked (Bss s b)) w = inr (nothing _ (λ k. refl) refl refl (λ s. refl))
 
 none_answer : (r : Option Refusal) (w : World) (note : Note) → PullsOr note (judged_outcome w note r).reply
 unfolding judged_outcome

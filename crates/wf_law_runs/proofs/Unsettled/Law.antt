@@ -2,7 +2,7 @@
 use Rattle.std.proofs.Common.{◌≡◌, refl, sym, ◌∙◌, subst, arith, ℕ, ◌≤◌, List, [], ◌∷◌, Option, Some, None, take}
 use Rattle.wf_frame.specs.declared.settings.Config.{Config}
 use Rattle.wf_frame.specs.Settings.{IsInRange}
-use Rattle.wf_frame.specs.declared.notes.Ask.TheVariants.{Join, Leave, Rate, Tick, Pull, Arrive, Answer, Done, Sleep, Wake, Poll, Rx, Reap, Ampdu, Stop, Start, Unsent, GiveUp, Flush, Offload, Weight, Plain, Hold, Begin, Free, Cease, Group, Service}
+use Rattle.wf_frame.specs.declared.notes.Ask.TheVariants.{Join, Leave, Rate, Tick, Pull, Arrive, Answer, Done, Sleep, Wake, Poll, Rx, Reap, Ampdu, Stop, Start, Unsent, GiveUp, Flush, Offload, Weight, Plain, Hold, Begin, Free, Cease, Group, Service, Bss}
 use Rattle.wf_frame.specs.declared.notes.Note.{Note}
 use Rattle.wf_frame.specs.declared.notes.Note.TheVariants.{Enqueue, Asked}
 use Rattle.wf_frame.specs.declared.notes.Refusal.{Refusal}
@@ -77,6 +77,8 @@ few_done config (Asked (Cease s t)) w is some r i k = few_kept config w _ (keeps
 few_done config (Asked (Group ask)) w is some r i k = record { numbers = k.numbers; opened = k.opened }
 few_done config (Asked (Service ask)) w is some r i k =
     few_kept config w _ (keeps_same w _ (same_on_station w (station_served ask) _ (λ x t. refl))) k
+few_done config (Asked (Bss s b)) w is some r i k =
+    few_kept config w _ (keeps_same w _ (same_on_station w s _ (λ x t. refl))) k
 
 few_answer : (config : Config) (o : Option Refusal) (w : World) (note : Note) → refusal w note ≡ o →
     w.config ≡ config → 1 ≤ config.agg → IsLawful w → IsFew config w →

@@ -4,7 +4,7 @@ use Rattle.std.proofs.lemmas.Bool.{not-false}
 use Rattle.wf_frame.specs.declared.settings.Config.{Config}
 use Rattle.wf_frame.specs.declared.notes.Note.{Note}
 use Rattle.wf_frame.specs.declared.notes.Note.TheVariants.{Enqueue, Asked}
-use Rattle.wf_frame.specs.declared.notes.Ask.TheVariants.{Join, Leave, Rate, Tick, Pull, Arrive, Answer, Done, Sleep, Wake, Poll, Rx, Reap, Ampdu, Stop, Start, Unsent, GiveUp, Flush, Offload, Weight, Hold, Begin, Free, Cease, Group, Service}
+use Rattle.wf_frame.specs.declared.notes.Ask.TheVariants.{Join, Leave, Rate, Tick, Pull, Arrive, Answer, Done, Sleep, Wake, Poll, Rx, Reap, Ampdu, Stop, Start, Unsent, GiveUp, Flush, Offload, Weight, Hold, Begin, Free, Cease, Group, Service, Bss}
 use Rattle.wf_frame.specs.declared.notes.Ask.TheVariants as call
 use Rattle.wf_frame.specs.declared.notes.Refusal.{Refusal}
 use Rattle.wf_frame.specs.Classes.{all_classes}
@@ -22,7 +22,7 @@ use Rattle.wf_law_runs.proofs.Windows.Sides.{each_side_on, on_live, Side, sides_
 use Rattle.wf_law_runs.proofs.Windows.Opened.{eight, NoRow, no_row}
 use Rattle.wf_law_runs.proofs.Windows.Agreed.{same_left_tids, same_off_lists}
 use Rattle.wf_law_runs.proofs.Releases.Kept.{Kept, kept_same, then_keep, keep_pulled, keep_ended, keep_answered, keep_enqueued, keep_unsent, keep_given_up, keep_flushed, keep_reaped, keep_numbers_ended}
-use Rattle.wf_law_runs.proofs.Releases.Released.{side_with_station, side_own_station, keep_rate, keep_tick, keep_group, keep_slept, keep_woken, keep_credited, keep_received, refused_kept, keep_stated, keep_stopped, keep_started, keep_weighed, keep_served}
+use Rattle.wf_law_runs.proofs.Releases.Released.{side_with_station, side_own_station, keep_rate, keep_tick, keep_group, keep_slept, keep_woken, keep_credited, keep_received, refused_kept, keep_stated, keep_stopped, keep_started, keep_weighed, keep_served, keep_moved}
 
 pub record IsSized (w : World) : Type 0 where
   pub size : (s t : ℕ) → (session w s t).size ≤ 256
@@ -202,6 +202,7 @@ sized_done (Asked (Cease s t)) w e i = sized_ceased w s t i
 sized_done (Asked Reap) w e i = sized_kept w _ (keep_reaped w.finished w) i
 sized_done (Asked (Group ask)) w e i = sized_kept w _ (keep_group w ask) i
 sized_done (Asked (Service ask)) w e i = sized_kept w _ (keep_served w ask) i
+sized_done (Asked (Bss s b)) w e i = sized_kept w _ (keep_moved w s b) i
 
 sized_answer : (r : Option Refusal) (w : World) (note : Note) → refusal w note ≡ r → IsSized w →
     IsSized (judged_outcome w note r).world

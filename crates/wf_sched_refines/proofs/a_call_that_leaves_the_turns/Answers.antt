@@ -1,5 +1,5 @@
 -- Each clause is a law of Unchanged or Exchanges.
-use Rattle.wf_sched_refines.proofs.Unchanged.{enqueued_leaves, rate_leaves, tick_leaves, arrived_leaves, answered_leaves, slept_leaves, woken_leaves, credited_leaves, reaped_leaves, bounded_leaves, stated_leaves, stopped_leaves, started_leaves, unsent_leaves, given_up_leaves, flushed_leaves, held_leaves, begun_leaves, freed_leaves, ceased_leaves, grouped_leaves, served_leaves}
+use Rattle.wf_sched_refines.proofs.Unchanged.{enqueued_leaves, rate_leaves, tick_leaves, arrived_leaves, answered_leaves, slept_leaves, woken_leaves, credited_leaves, reaped_leaves, bounded_leaves, stated_leaves, stopped_leaves, started_leaves, unsent_leaves, given_up_leaves, flushed_leaves, held_leaves, begun_leaves, freed_leaves, ceased_leaves, grouped_leaves, served_leaves, moved_leaves}
 use Rattle.wf_sched_refines.proofs.Exchanges.{winner_stands}
 use Rattle.wf_sched_refines.proofs.a_call_that_leaves_the_turns.Goals as goal
 
@@ -71,3 +71,6 @@ returns-clause-grouped c = grouped_leaves
 
 pub returns-clause-served : goal.returns-clause-served
 returns-clause-served c = served_leaves
+
+pub returns-clause-moved : goal.returns-clause-moved
+returns-clause-moved c = moved_leaves
