@@ -1,14 +1,16 @@
--- Proves that a call about group frames changes what is kept of them as it changes what the machine knows.
-use Rattle.std.proofs.Common.{◌≡◌, refl, ap, ap₂, sym, ℕ, ◌+◌, ◌==◌, nat_lt, Bool, ◌&&◌, List, [], ◌∷◌, Option, Some, option_map, length, map, drop}
+-- Proves that a call about group frames changes what is kept of them as it changes what the machine knows,
+-- and that each BSS keeps its room.
+use Rattle.std.proofs.Common.{◌≡◌, refl, ap, ap₂, sym, ◌∙◌, subst, arith, ℕ, ◌+◌, ◌<◌, ◌==◌, nat_lt, Bool, ◌&&◌, List, [], ◌∷◌, Option, Some, option_map, length, map, drop, inl, inr, get_or, set, length-set}
 use Rattle.std.specs.Prelude.{slice_get}
-use Rattle.std.proofs.lemmas.List.{map-append, length-map}
+use Rattle.std.proofs.lemmas.Bool.{cases_eq}
+use Rattle.std.proofs.lemmas.List.{map-append, length-map, get_or_read, get_or-set_same, get_or-set_other}
 use Rattle.wf_frame.specs.declared.settings.Config.{Config}
 use Rattle.wf_frame.specs.declared.notes.GroupAsk.{GroupAsk}
 use Rattle.wf_frame.specs.declared.notes.GroupAsk.TheVariants as group
 use Rattle.wf_def_world.specs.Group.{GroupFrame as WorldFrame, next_count, after_first, first_queued, after_accept, after_beacon, after_group_pull, group_after}
 use Rattle.wf_send_parts.specs.declared.group.GroupFrame.{GroupFrame}
 use Rattle.wf_send_parts.specs.declared.group.GroupFlight.{GroupFlight}
-use Rattle.wf_send_parts.specs.Group.{GroupValue, world_frame, world_flight, group_state, flight_in, with_group_frame, with_beacon, with_flight, group_value_after}
+use Rattle.wf_send_parts.specs.Group.{GroupValue, GroupsHaveRoom, no_group_frames, group_at, with_group, world_frame, world_flight, group_state, flight_in, with_group_frame, with_beacon, with_flight, group_value_after}
 
 accepted_state : (len tag : ℕ) (to : List ℕ) (v : GroupValue) →
     group_state (with_group_frame len tag to v) ≡ after_accept len (group_state v)
@@ -49,3 +51,26 @@ group_follows config sleeps (group.Accept len) tag to v = accepted_state len tag
 group_follows config sleeps group.Beacon tag to v = beacon_state _ v
 group_follows config sleeps group.Pull tag to v = flight_state sleeps v
 group_follows config sleeps group.Done tag to v = refl
+
+-- one queue of as much room in place of another
+pub room_kept : (groups : List GroupValue) (b : ℕ) (v : GroupValue) (n : ℕ) → b < length groups →
+    v.capacity ≡ (group_at groups b).capacity → GroupsHaveRoom n groups →
+    GroupsHaveRoom n (with_group groups b v)
+room_kept groups b v n low same h = record {
+  each = λ k within. elim (cases_eq k b) [
+    | inl here ↦ subst (λ (j : ℕ). (group_at (with_group groups b v) j).capacity ≡ n) (sym here)
+        (ap (λ (g : GroupValue). g.capacity) (get_or-set_same groups b v (no_group_frames 0) low)
+        ∙ same ∙ h.each b low)
+    | inr other ↦ ap (λ (g : GroupValue). g.capacity)
+        (get_or-set_other groups b k v (no_group_frames 0) other) ∙ h.each k (omega (arith, within, length-set groups b v))
+  ];
+}
+
+-- the same for a list seen as `now`, whose queue at i is seen as `before`
+pub room_changed : (groups now : List GroupValue) → groups ≡ now → (b i : ℕ) → i ≡ b → b < length now →
+    (before after : GroupValue) → before ≡ get_or groups i before → after.capacity ≡ before.capacity →
+    (n : ℕ) → GroupsHaveRoom n now → GroupsHaveRoom n (set groups i after)
+room_changed groups now is b i place within before after found same n h =
+    let low : i < length groups = omega (arith, ap length is, place, within) in
+    room_kept groups i after n low (same ∙ ap (λ (g : GroupValue). g.capacity)
+    (get_or_read groups i before low found (no_group_frames 0))) (subst (GroupsHaveRoom n) (sym is) h)

@@ -1,7 +1,7 @@
--- Defines the group frames and the beacons of an access point as it keeps them. In addition to what the
+-- Defines the group frames and the beacons of a BSS as its access point keeps them. In addition to what the
 -- machine knows of a group frame (wf_def_world), it keeps its owner's tag and its destination, and the number
 -- and the More Data bit of the one that is on the air. Lengths are in octets, times in microseconds.
-use Rattle.std.specs.Prelude.{ℕ, ◌+◌, ◌*◌, ◌<◌, ◌%◌, ◌==◌, nat_lt, nat_le, Bool, false, not, ◌&&◌, List, [], ◌∷◌, ◌++◌, Option, Some, None, is_some, is_none, option_map, if◌then◌else◌, length, map, drop, slice_get}
+use Rattle.std.specs.Prelude.{◌≡◌, ℕ, ◌+◌, ◌*◌, ◌<◌, ◌%◌, ◌==◌, nat_lt, nat_le, Bool, false, not, ◌&&◌, List, [], ◌∷◌, ◌++◌, Option, Some, None, is_some, is_none, option_map, if◌then◌else◌, length, map, drop, slice_get, slice_index_or, slice_set}
 use Rattle.wf_frame.specs.declared.settings.Config.{Config}
 use Rattle.wf_frame.specs.declared.notes.GroupAsk.{GroupAsk}
 use Rattle.wf_frame.specs.declared.notes.GroupAsk.TheVariants as group
@@ -44,6 +44,18 @@ no_group_frames capacity = record {
   sent = 0;
   air = 0;
 }
+
+-- the group frames and the beacons of BSS b, from those of all BSSs
+abbrev pub group_at : List GroupValue → ℕ → GroupValue
+group_at groups b = slice_index_or groups b (no_group_frames 0)
+
+-- those of all BSSs, with v in BSS b
+abbrev pub with_group : List GroupValue → ℕ → GroupValue → List GroupValue
+with_group groups b v = slice_set groups b v
+
+-- each BSS has room for n queued frames
+pub record GroupsHaveRoom (n : ℕ) (groups : List GroupValue) : Type 0 where
+  pub each : (b : ℕ) → b < length groups → (group_at groups b).capacity ≡ n
 
 -- More than the airtime of a group frame, in microseconds: its body has at most 65,535 octets.
 abbrev pub group_air_limit : ℕ

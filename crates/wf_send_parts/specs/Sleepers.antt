@@ -1,6 +1,6 @@
 -- Defines which stations sleep, the class of which a polled station may be sent one exchange, the service
--- periods of stations that sleep (U-APSD; IEEE 802.11-2012, 10.2.1.5), and which stations are stopped, by
--- number.
+-- periods of stations that sleep (U-APSD; IEEE 802.11-2012, 10.2.1.5), which stations are stopped, and of
+-- which BSS each is, by number.
 use Rattle.std.specs.Prelude.{ℕ, ◌==◌, Bool, false, not, ◌&&◌, ◌||◌, if◌then◌else◌, List, Option, Some, None, is_some, slice_index_or, slice_set}
 use Rattle.wf_frame.specs.declared.classes.Class.{Class}
 use Rattle.wf_frame.specs.declared.notes.ServiceAsk.{ServiceAsk}
@@ -10,12 +10,14 @@ use Rattle.wf_def_world.specs.CanSend.{has_credit}
 use Rattle.wf_def_world.specs.Service.{limit_left, is_reached, service_after_sent}
 use Rattle.wf_send_parts.specs.declared.stations.sleepers.Sleeper.{Sleeper}
 
--- awake, without a credit, and not stopped; no class is delivery-enabled, and no service period is open
+-- awake, without a credit, not stopped, and of BSS 0; no class is delivery-enabled, and no service period is
+-- open
 abbrev pub awake : Sleeper
 awake = record {
   asleep = false;
   credit = None;
   stopped = false;
+  bss = 0;
   delivery = 0;
   most = 0;
   service = None;

@@ -157,6 +157,7 @@ impl GroupQueue {
         ensures id { IfOk result (λ id. id ≡ self.old.accepted) }
         ensures queued { OnOk result (self.new ≡ with_group_frame len tag to self.old) }
         ensures refused { IfErr result (λ _. self.new ≡ self.old) }
+        ensures room { self.new.capacity ≡ self.old.capacity }
     {
         let queued = self.queue.len();
         if self.queue.capacity() <= queued {
@@ -203,6 +204,7 @@ impl GroupQueue {
         ensures answer { IfOk result (λ answer. answer ≡ flight_reply overhead sleeps self.old) }
         ensures flies { OnOk result (self.new ≡ with_flight sleeps self.old) }
         ensures refused { IfErr result (λ _. self.new ≡ self.old) }
+        ensures room { self.new.capacity ≡ self.old.capacity }
     {
         if self.flying.is_some() {
             return Err(Refusal::Flying);
@@ -250,6 +252,7 @@ impl GroupQueue {
         ensures id { IfOk result (λ id. id ≡ id_of (group_state self.old).flying) }
         ensures ended { OnOk result (self.new ≡ with_flight_ended overhead self.old) }
         ensures refused { IfErr result (λ _. self.new ≡ self.old) }
+        ensures room { self.new.capacity ≡ self.old.capacity }
     {
         let Some(flight) = self.flying else {
             return Err(Refusal::Nothing);

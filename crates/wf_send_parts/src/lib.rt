@@ -1,7 +1,7 @@
 //! The parts of a transmit half other than its queues and its scheduler: the originator's windows of all TIDs
 //! (`window`), the open exchanges (`exchanges`), the live and sleeping stations with the modes of their TIDs
-//! and the counts of frames by fate (`stations`), and the group frames and beacons (`group`). The four
-//! modules are independent of each other.
+//! and the counts of frames by fate (`stations`), and the group frames and beacons of a BSS (`group`) and of
+//! all (`groups`). Only `groups` depends on another module, `group`.
 //!
 //! ```text
 //! let mut windows = Windows::new(alloc, 1)?;       // the eight windows of one station
@@ -14,5 +14,6 @@
 
 pub mod exchanges;
 pub mod group;
+pub mod groups;
 pub mod stations;
 pub mod window;

@@ -1,4 +1,5 @@
-//! Which stations sleep, their credits and service periods, and which stations are stopped.
+//! Which stations sleep, their credits and service periods, which stations are stopped, and of which BSS each
+//! is.
 
 ghost use Rattle.std.specs.Prelude.{◌≡◌, ◌<◌, ◌≤◌, ◌&&◌, Some, None, IfOk, IfSome, true, false, length, replicate};
 ghost use Rattle.wf_frame.specs.Classes.{has_class};
@@ -8,17 +9,18 @@ use std::alloc::{AllocError, Global};
 use std::marker::Model;
 use wf_frame::{Class, GREATEST_CLASSES};
 
-/// A station that is awake, without a credit or a delivery-enabled class, and not stopped.
+/// A station of BSS 0 that is awake, without a credit or a delivery-enabled class, and not stopped.
 const AWAKE: Sleeper = Sleeper {
     asleep: false,
     credit: None,
     stopped: false,
+    bss: 0,
     delivery: 0,
     most: 0,
     service: None,
 };
 
-/// The power-save state of a station, and whether its driver stopped it.
+/// The power-save state of a station, whether its driver stopped it, and its BSS.
 #[derive(Clone, Copy, Debug, PartialEq, Eq)]
 pub struct Sleeper {
     /// Whether it sleeps.
@@ -27,6 +29,8 @@ pub struct Sleeper {
     pub credit: Option<Class>,
     /// Whether no pull picks it.
     pub stopped: bool,
+    /// The number of its BSS, for whose beacons it wakes.
+    pub bss: u8,
     /// Its delivery-enabled classes (IEEE 802.11-2012, 10.2.1.5): bit c is 1 if class number c is one.
     pub delivery: u8,
     /// The most frames of a service period. 0 means no limit.
@@ -120,8 +124,8 @@ impl Model for Sleepers {
 impl Sleepers {
     ghost use Rattle.wf_send_parts.specs.Sleepers.{awake, sleeper, with_sleeper, woken, sleeper_spent};
 
-    /// Creates `stations` stations, 1 to 256, all awake, without a credit and not stopped. None has a
-    /// delivery-enabled class. Fails only if memory runs out.
+    /// Creates `stations` stations, 1 to 256, all awake, without a credit, not stopped, and of BSS 0. None
+    /// has a delivery-enabled class. Fails only if memory runs out.
     pub fn new(alloc: Global, stations: u32) -> Result<Sleepers, AllocError>
         requires { (1 ≤ stations) × (stations ≤ 256) }
         ensures { IfOk result (λ made. made ≡ replicate stations awake) }
@@ -131,7 +135,7 @@ impl Sleepers {
         })
     }
 
-    /// Makes a station awake, without a credit or a delivery-enabled class, and not stopped.
+    /// Makes a station awake, without a credit or a delivery-enabled class, not stopped, and of BSS 0.
     pub fn reset(&mut self, station: u16)
         requires { station < length self.old }
         ensures { self.new ≡ with_sleeper self.old station awake }
@@ -224,6 +228,23 @@ impl Sleepers {
         let sleeper = &mut self.stations[usize::from(station)];
         sleeper.delivery = classes;
         sleeper.most = most;
+    }
+
+    /// Returns the number of a station's BSS.
+    pub fn bss(&self, station: u16) -> u8
+        requires { station < length self.now }
+        ensures { result ≡ (sleeper self.now station).bss }
+    {
+        self.stations[usize::from(station)].bss
+    }
+
+    /// Makes a station one of this BSS.
+    pub fn set_bss(&mut self, station: u16, bss: u8)
+        requires { station < length self.old }
+        ensures { self.new ≡ with_sleeper self.old station
+            (record (sleeper self.old station) { bss = bss }) }
+    {
+        self.stations[usize::from(station)].bss = bss;
     }
 
     /// Opens a service period of a sleeping station.
