@@ -10,7 +10,7 @@ use Rattle.wf_frame.specs.declared.notes.AskedRate.{AskedRate}
 use Rattle.wf_frame.specs.declared.notes.ServiceAsk.{ServiceAsk}
 use Rattle.wf_frame.specs.declared.notes.ServiceReply.{ServiceReply}
 use Rattle.wf_frame.specs.declared.notes.Note.TheVariants.{Asked}
-use Rattle.wf_frame.specs.declared.notes.Ask.TheVariants.{Rate as Rates, Tick, Sleep, Wake, Poll, Rx, Reap, Ampdu, Stop, Start, Service}
+use Rattle.wf_frame.specs.declared.notes.Ask.TheVariants.{Rate as Rates, Tick, Sleep, Wake, Poll, Rx, Reap, Ampdu, Stop, Start, Service, Bss}
 use Rattle.wf_frame.specs.declared.notes.ReplyNote.TheVariants.{Set, Now, Slept, Woken, Polled, Charged, Reaped, Stopped, Started, Service as Services, Refused}
 use Rattle.wf_frame.specs.declared.notes.Refusal.TheVariants.{Debt, Nothing}
 use Rattle.wf_frame.specs.Frames.{FrameValue}
@@ -36,7 +36,7 @@ use Rattle.wf_send_half_model.specs.Standing.{StandsFor, Meets}
 use Rattle.wf_send_half_model.specs.Changes.{after_service_call, after_listing, after_listing_in, after_admission}
 use Rattle.wf_send_half_model.proofs.Readers.{pending_same, deficit_same}
 use Rattle.wf_send_half_model.proofs.Receipts.{after_receipt, rx_meets}
-use Rattle.wf_send_half_model.proofs.Whole.{service_meets, tick_meets, reap_meets, rate_meets, ampdu_meets, stop_meets, start_meets, sleep_meets, wake_meets, poll_meets}
+use Rattle.wf_send_half_model.proofs.Whole.{service_meets, tick_meets, reap_meets, rate_meets, ampdu_meets, bss_meets, stop_meets, start_meets, sleep_meets, wake_meets, poll_meets}
 use Rattle.wf_send_half.specs.declared.half.Half.TheInside.{Inside}
 use Rattle.wf_send_half.proofs.Rows.{last_row, live_of, refused_call}
 use Rattle.wf_send_half.proofs.Worlds.{met_by}
@@ -56,7 +56,7 @@ view_of t = record {
   sleepers = t.sleepers;
   opened = t.opened;
   tally = counts_of t.tally;
-  group = t.group;
+  groups = t.groups;
 }
 
 some_left : (n m : ℕ) → n ≡ suc m → (n == 0) ≡ false
@@ -93,6 +93,16 @@ module _ (v x : TransmitValue) (same : x ≡ v) (w : World) (bodies : ℕ → Fr
       (record x { members = members }) w bodies (Asked (Ampdu s octets)) Set
       (ap (λ (m : List (Option Member)). record x { members = m }) e)
       (ampdu_meets x w bodies at_x s octets (sym done))
+
+  pub bss_done : (s b : ℕ) (sleepers : List Sleeper) →
+      sleepers ≡ with_sleeper x.sleepers s (record (sleeper x.sleepers s) { bss = b }) →
+      None ≡ refusal w (Asked (Bss s b)) →
+      Meets w bodies (Asked (Bss s b)) (record x { sleepers = sleepers }) Set
+  bss_done s b sleepers e done =
+      met_by (record x { sleepers = with_sleeper x.sleepers s (record (sleeper x.sleepers s) { bss = b }) })
+      (record x { sleepers = sleepers }) w bodies (Asked (Bss s b)) Set
+      (ap (λ (z : List Sleeper). record x { sleepers = z }) e)
+      (bss_meets x w bodies at_x s b (sym done))
 
   pub stop_done : (s : ℕ) (sleepers : List Sleeper) (y : TransmitValue) →
       sleepers ≡ with_sleeper x.sleepers s (record (sleeper x.sleepers s) { stopped = true }) →

@@ -1,12 +1,13 @@
 -- Proves the clauses of a new half from the values of its parts.
-use Rattle.std.proofs.Common.{◌≡◌, refl, ap, sym, ◌∙◌, subst, ℕ, ◌*◌, List, [], Option, None, replicate}
-use Rattle.std.proofs.lemmas.List.{length-replicate}
+use Rattle.std.proofs.Common.{◌≡◌, refl, ap, sym, ◌∙◌, subst, arith, ℕ, ◌*◌, ◌<◌, List, [], length, Option, None, replicate}
+use Rattle.std.proofs.lemmas.List.{length-replicate, get_or-replicate}
 use Rattle.wf_frame.specs.declared.settings.Config.{Config}
 use Rattle.wf_frame.specs.Frames.{FrameValue, new_frame}
 use Rattle.wf_frame.specs.Settings.{IsInRange}
+use Rattle.wf_def_world.specs.Group.{bss_count}
 use Rattle.wf_def_world.specs.World.{opening}
 use Rattle.wf_send_parts.specs.Tally.{Counts, no_counts}
-use Rattle.wf_send_parts.specs.Group.{GroupValue, no_group_frames}
+use Rattle.wf_send_parts.specs.Group.{GroupValue, no_group_frames, group_at}
 use Rattle.wf_queue_flows.specs.Flows.{FlowsValue, empty_flows}
 use Rattle.wf_sched.specs.ClassRotas.{SchedValue, new_scheduler as empty_sched}
 use Rattle.wf_send_parts.specs.Window.{WindowValue}
@@ -26,6 +27,12 @@ use Rattle.wf_send_half.specs.Half.{HasSizes}
 abbrev pub a_frame : FrameValue
 a_frame = new_frame 0 0 0 []
 
+opening_room : (n buffered b : ℕ) → b < length (replicate n (no_group_frames buffered)) →
+    (group_at (replicate n (no_group_frames buffered)) b).capacity ≡ buffered
+opening_room n buffered b low = ap (λ (g : GroupValue). g.capacity)
+    (get_or-replicate n b (no_group_frames buffered) (no_group_frames 0)
+    (omega (arith, low, length-replicate n (no_group_frames buffered))))
+
 opening_sizes : (c : Config) → IsInRange c → HasSizes (opening_half c)
 opening_sizes c range = record {
   in_range = range;
@@ -35,18 +42,19 @@ opening_sizes c range = record {
   modes = length-replicate (8 * c.stations) Plain;
   members = length-replicate {A = Option Member} c.stations None;
   sleepers = length-replicate c.stations awake;
-  group = refl;
+  groups = length-replicate (bss_count c.bsses) (no_group_frames c.buffered);
+  room = record { each = opening_room (bss_count c.bsses) c.buffered };
 }
 
 module _ (c : Config) (flows : FlowsValue) (sched : SchedValue) (windows : List WindowValue)
     (modes : List Mode) (members : List (Option Member)) (sleepers : List Sleeper) (opened : List Open)
-    (tally : Counts) (group : GroupValue)
+    (tally : Counts) (groups : List GroupValue)
     (range : IsInRange c)
     (a : flows ≡ empty_flows c) (b : sched ≡ empty_sched c.stations c.quantum)
     (d : windows ≡ replicate (8 * c.stations) new_window) (j : modes ≡ replicate (8 * c.stations) Plain)
     (e : members ≡ replicate c.stations None)
     (f : sleepers ≡ replicate c.stations awake) (g : opened ≡ []) (i : tally ≡ no_counts)
-    (k : group ≡ no_group_frames c.buffered) where
+    (k : groups ≡ replicate (bss_count c.bsses) (no_group_frames c.buffered)) where
   abbrev made : TransmitValue
   made = record {
     config = c;
@@ -61,7 +69,7 @@ module _ (c : Config) (flows : FlowsValue) (sched : SchedValue) (windows : List 
     sleepers = sleepers;
     opened = opened;
     tally = tally;
-    group = group;
+    groups = groups;
   }
 
   made_is : made ≡ opening_half c
@@ -80,7 +88,7 @@ module _ (c : Config) (flows : FlowsValue) (sched : SchedValue) (windows : List 
         sleepers = sleepers;
         opened = opened;
         tally = tally;
-        group = group;
+        groups = groups;
       }) j
       ∙ ap (λ (x : List (Option Member)). record (opening_half c) {
         members = x;
@@ -88,17 +96,17 @@ module _ (c : Config) (flows : FlowsValue) (sched : SchedValue) (windows : List 
         opened =
             opened;
         tally = tally;
-        group = group;
+        groups = groups;
       }) e
       ∙ ap (λ (x : List Sleeper). record (opening_half c) {
         sleepers = x;
         opened = opened;
         tally = tally;
-        group = group;
+        groups = groups;
       }) f
-      ∙ ap (λ (x : List Open). record (opening_half c) { opened = x; tally = tally; group = group }) g
-      ∙ ap (λ (x : Counts). record (opening_half c) { tally = x; group = group }) i
-      ∙ ap (λ (x : GroupValue). record (opening_half c) { group = x }) k
+      ∙ ap (λ (x : List Open). record (opening_half c) { opened = x; tally = tally; groups = groups }) g
+      ∙ ap (λ (x : Counts). record (opening_half c) { tally = x; groups = groups }) i
+      ∙ ap (λ (x : List GroupValue). record (opening_half c) { groups = x }) k
 
   pub sizes : HasSizes made
   sizes = subst HasSizes (sym made_is) (opening_sizes c range)

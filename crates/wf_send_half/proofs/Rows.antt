@@ -18,7 +18,8 @@ use Rattle.wf_def_world.specs.World.{World, is_live, is_agreed, is_held_back, is
 use Rattle.wf_def_lists.specs.Table.{upto}
 use Rattle.wf_def_air.specs.Airtime.{Rate, is_single}
 use Rattle.wf_def_world.specs.Rates.{is_rate_with}
-use Rattle.wf_def_world.specs.Refusals.{first_refusal, is_any_agreed, is_bad_station, is_within, has_live_credit, open_of_tid, numbers_waiting, refusals, refusal}
+use Rattle.wf_def_world.specs.Group.{bss_count}
+use Rattle.wf_def_world.specs.Refusals.{first_refusal, is_any_agreed, is_bad_bss, is_bad_station, is_within, has_live_credit, open_of_tid, numbers_waiting, refusals, refusal}
 use Rattle.wf_send_parts.specs.Members.{member, is_offloaded_in}
 use Rattle.wf_send_parts.specs.declared.stations.members.Member.{Member}
 use Rattle.wf_send_parts.specs.Modes.{is_set_in, any_set_in}
@@ -85,6 +86,11 @@ all_eight p q same = go (upto 8) refl
     go (t ∷ ts) low =
         let here = below t (list_all (λ i. nat_lt i 8) ts) low in
         ap₂ (λ (a b : Bool). a || b) (same t here.0) (go ts here.1)
+
+-- the row about the number of a BSS
+pub bss_same : (v : TransmitValue) (w : World) (bodies : ℕ → FrameValue) → StandsFor v w bodies → (b : ℕ) →
+    is_bad_bss w b ≡ nat_le (bss_count v.config.bsses) b
+bss_same v w bodies h b = ap (λ (c : Config). nat_le (bss_count c.bsses) b) (sym h.parts.others.config)
 
 module _ (v : TransmitValue) (w : World) (bodies : ℕ → FrameValue) (h : StandsFor v w bodies) (s : ℕ) where
   pub bad_same : is_bad_station w s ≡ nat_le v.config.stations s

@@ -7,15 +7,17 @@ use Rattle.wf_frame.specs.Settings.{IsInRange}
 use Rattle.wf_frame.specs.declared.notes.Refusal.{Refusal}
 use Rattle.wf_frame.specs.declared.notes.Refusal.TheVariants.{BadStation, BadTid, NoStation}
 use Rattle.wf_def_lists.specs.Bounds.{greatest_tid}
+use Rattle.wf_def_world.specs.Group.{bss_count}
 use Rattle.wf_def_world.specs.World.{World, is_live}
 use Rattle.wf_def_world.specs.Refusals.{is_bad_station}
 use Rattle.wf_law_driver.specs.Unheard.{IsUnheard}
+use Rattle.wf_send_parts.specs.Group.{GroupsHaveRoom}
 use Rattle.wf_send_parts.specs.Members.{member, received_in}
 use Rattle.wf_send_half_model.specs.Half.{TransmitValue, can_send_of}
 use Rattle.wf_send_half_model.specs.Standing.{StandsFor}
 
--- each setting is in its range, each part has as many places as there are stations, and as many group frames
--- may be queued as the setting `buffered` says
+-- each setting is in its range, each part has as many places as there are stations or BSSs, and as many group
+-- frames of each BSS may be queued as the setting `buffered` says
 pub record HasSizes (v : TransmitValue) : Type 0 where
   pub in_range : IsInRange v.config
   pub flows : v.flows.stations ≡ v.config.stations
@@ -24,7 +26,8 @@ pub record HasSizes (v : TransmitValue) : Type 0 where
   pub modes : length v.modes ≡ 8 * v.config.stations
   pub members : length v.members ≡ v.config.stations
   pub sleepers : length v.sleepers ≡ v.config.stations
-  pub group : v.group.capacity ≡ v.config.buffered
+  pub groups : length v.groups ≡ bss_count v.config.bsses
+  pub room : GroupsHaveRoom v.config.buffered v.groups
 
 -- the half represents some world of a run
 pub record HasWorld (v : TransmitValue) : Type 0 where

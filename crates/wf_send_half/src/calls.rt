@@ -5,7 +5,7 @@ ghost use Rattle.wf_frame.specs.Answers.{reply_with};
 ghost use Rattle.wf_frame.specs.Classes.{same_class};
 ghost use Rattle.wf_frame.specs.Frames.{FrameValue};
 ghost use Rattle.wf_frame.specs.declared.answers.Brief.TheVariants.{Refused as Refuses};
-ghost use Rattle.wf_frame.specs.declared.notes.Ask.TheVariants.{Join, Plain, Offload, Weight, Leave, Rate, Tick, Pull, Sleep, Wake, Poll, Rx, Reap, Ampdu, Stop, Start, Unsent, GiveUp, Flush};
+ghost use Rattle.wf_frame.specs.declared.notes.Ask.TheVariants.{Join, Plain, Offload, Weight, Leave, Rate, Tick, Pull, Sleep, Wake, Poll, Rx, Reap, Ampdu, Stop, Start, Unsent, GiveUp, Flush, Bss};
 ghost use Rattle.wf_frame.specs.declared.notes.Note.TheVariants.{Asked};
 ghost use Rattle.wf_frame.specs.declared.notes.Refusal.TheVariants.{Full, Ahead, Idle};
 ghost use Rattle.wf_frame.specs.declared.notes.ReplyNote.TheVariants.{Joined, Left, Set, Now, Slept, Woken, Polled, Charged, Accepted, Stopped, Started, Marked, Flushed, Refused};
@@ -318,6 +318,17 @@ impl Transmit {
         ensures unheard { HasUnheardWorld self.new }
     {
         self.half.ampdu(station, octets)
+    }
+
+    /// A station is of this BSS from now on, 0 to `bsses` - 1: the beacons that it hears while it sleeps are
+    /// those of the BSS. Refused as BadStation, BadBss, NoStation or Asleep.
+    pub fn set_bss(&mut self, station: u16, bss: u8) -> Result<(), Refusal>
+        ensures meets { (w : World) (bodies : ℕ → FrameValue) → StandsFor self.old w bodies →
+            Meets w bodies (Asked (Bss station bss)) self.new (reply_of_result (λ _. Set) result) }
+        ensures refused { IfErr result (λ _. self.new ≡ self.old) }
+        ensures unheard { HasUnheardWorld self.new }
+    {
+        self.half.set_bss(station, bss)
     }
 
     /// Stops a station: no pull picks it until it is started. Refused as BadStation, NoStation or Stopped.

@@ -1,9 +1,10 @@
 //! The parts of the transmit half.
 
-ghost use Rattle.std.specs.Prelude.{◌≡◌, ℕ, None, is_some, not, ◌&&◌, nat_le, count_by, IfOk};
+ghost use Rattle.std.specs.Prelude.{◌≡◌, ◌≤◌, ℕ, None, is_some, not, ◌&&◌, nat_le, count_by, IfOk};
 ghost use Rattle.wf_frame.specs.Classes.{same_class};
 ghost use Rattle.wf_frame.specs.Frames.{FrameValue};
 ghost use Rattle.wf_frame.specs.Settings.{first_out_of_range};
+ghost use Rattle.wf_def_world.specs.Group.{bss_count};
 ghost use Rattle.wf_def_world.specs.World.{World, opening, is_live, rotation};
 ghost use Rattle.wf_send_parts.specs.Members.{member};
 ghost use Rattle.wf_send_half_model.specs.Half.{is_ahead_of};
@@ -17,7 +18,7 @@ use wf_queue_flows::Flows;
 use wf_rotation::Side;
 use wf_sched::Sched;
 use wf_send_parts::exchanges::Opened;
-use wf_send_parts::group::GroupQueue;
+use wf_send_parts::groups::Groups;
 use wf_send_parts::stations::{Members, Modes, Sleepers, Tally};
 use wf_send_parts::window::Windows;
 
@@ -37,7 +38,7 @@ pub(crate) struct Half {
     pub(crate) sleepers: Sleepers,
     pub(crate) opened: Opened,
     pub(crate) tally: Tally,
-    pub(crate) group: GroupQueue,
+    pub(crate) groups: Groups,
 }
 
 // Written by hand, so that the proof of a drop is one call rather than the drop of each part.
@@ -56,7 +57,7 @@ impl Drop for Half {
             sleepers: _sleepers,
             opened: _opened,
             tally: _,
-            group: _group,
+            groups: _groups,
         } = self;
     }
 }
@@ -81,7 +82,7 @@ impl Model for Half {
       sleepers = t.sleepers;
       opened = t.opened;
       tally = counts_of t.tally;
-      group = t.group;
+      groups = t.groups;
     } };
 
     ghost invariant = { λ t. HasSizes (record {
@@ -97,8 +98,16 @@ impl Model for Half {
       sleepers = t.sleepers;
       opened = t.opened;
       tally = counts_of t.tally;
-      group = t.group;
+      groups = t.groups;
     }) };
+}
+
+// Returns the number of BSSs.
+fn bss_count(config: Config) -> u32
+    ensures exact { result ≡ bss_count config.bsses }
+    ensures most { config.bsses ≤ 16 → result ≤ 16 }
+{
+    config.bsses.max(1)
 }
 
 impl Half {
@@ -115,7 +124,7 @@ impl Half {
         let windows = Windows::new(alloc, config.stations)?;
         let sched = Sched::new(alloc, config.stations, config.quantum)?;
         let flows = Flows::new(alloc, config)?;
-        let group = GroupQueue::new(alloc, config.buffered)?;
+        let groups = Groups::new(alloc, bss_count(config), config.buffered)?;
         Ok(Half {
             config,
             clock: 0,
@@ -129,8 +138,15 @@ impl Half {
             sleepers,
             opened,
             tally: Tally::new(),
-            group,
+            groups,
         })
+    }
+
+    // Returns the number of BSSs (`Transmit::bss_count`).
+    pub(crate) fn bss_count(&self) -> u32
+        ensures { result ≡ bss_count self.now.config.bsses }
+    {
+        bss_count(self.config)
     }
 
     // Returns whether a station is live (`Transmit::is_live`).

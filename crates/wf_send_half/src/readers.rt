@@ -1,13 +1,14 @@
 //! Functions that report the state of a transmit half and do not change it.
 
-ghost use Rattle.std.specs.Prelude.{◌≡◌, ◌<◌, ◌==◌, ◌&&◌, ℕ, pos, ◌+ℤ◌, length, is_none, is_some, find, option_map, Some};
+ghost use Rattle.std.specs.Prelude.{◌≡◌, ◌<◌, ◌==◌, ◌&&◌, ℕ, pos, ◌+ℤ◌, length, is_none, is_some, find, option_map, Some, if◌then◌else◌};
 ghost use Rattle.wf_frame.specs.Classes.{tid_number};
 ghost use Rattle.wf_frame.specs.Frames.{FrameValue};
 ghost use Rattle.wf_frame.specs.declared.notes.Ask.TheVariants.{Pull};
 ghost use Rattle.wf_frame.specs.declared.notes.Limits.{Limits};
 ghost use Rattle.wf_frame.specs.declared.notes.Note.TheVariants.{Asked};
 ghost use Rattle.wf_def_world.specs.Refusals.{refusal};
-ghost use Rattle.wf_def_world.specs.World.{World, is_live, is_offloaded, share, rotation, inside, owed};
+ghost use Rattle.wf_def_world.specs.Group.{bss_count};
+ghost use Rattle.wf_def_world.specs.World.{World, station as world_station, is_live, is_offloaded, share, rotation, inside, owed};
 ghost use Rattle.wf_queue_flows.specs.Flows.{frames_of_tid};
 ghost use Rattle.wf_sched.specs.ClassRotas.{deficit};
 ghost use Rattle.wf_send_parts.specs.Exchanges.{airtime_to};
@@ -101,6 +102,29 @@ impl Transmit {
             result ≡ is_offloaded w station }
     {
         u32::from(station) < self.half.config.stations && self.half.members.is_offloaded(station)
+    }
+
+    /// Returns the number of BSSs, 1 to 16. Each has a number below it.
+    pub fn bss_count(&self) -> u32
+        ensures value { result ≡ bss_count self.now.config.bsses }
+        ensures world { (w : World) (bodies : ℕ → FrameValue) → StandsFor self.now w bodies →
+            result ≡ bss_count w.config.bsses }
+    {
+        self.half.bss_count()
+    }
+
+    /// Returns the number of a station's BSS. That of a station that is not live is 0.
+    pub fn bss(&self, station: u16) -> u8
+        ensures value { result ≡ (if is_some (member self.now.members station)
+            then (sleeper self.now.sleepers station).bss else 0) }
+        ensures world { (w : World) (bodies : ℕ → FrameValue) → StandsFor self.now w bodies →
+            result ≡ (world_station w station).bss }
+    {
+        if self.is_live(station) {
+            self.half.sleepers.bss(station)
+        } else {
+            0
+        }
     }
 
     /// Returns the mode of a TID: whether it has an agreement. The station's number is below the setting

@@ -2,14 +2,15 @@
 
 ghost use Rattle.std.specs.Prelude.{◌≡◌, ◌<◌, ◌≤◌, ℕ, ◌-ℤ◌, pos, int_lt, true, false, ◌&&◌, [], ◌∷◌, None, Some, is_some, not, find, IfOk, IfErr, if◌then◌else◌, nat_le, nat_lt};
 ghost use Rattle.wf_frame.specs.Frames.{FrameValue};
-ghost use Rattle.wf_frame.specs.declared.notes.Ask.TheVariants.{Join, Plain, Offload, Weight, Rate as Rates, Tick, Sleep, Wake, Poll, Rx, Ampdu, Stop, Start, Service};
+ghost use Rattle.wf_frame.specs.declared.notes.Ask.TheVariants.{Join, Plain, Offload, Weight, Rate as Rates, Tick, Sleep, Wake, Poll, Rx, Ampdu, Stop, Start, Service, Bss};
 ghost use Rattle.wf_frame.specs.declared.notes.ServiceAsk.TheVariants.{Set, Trigger, End};
 ghost use Rattle.wf_frame.specs.Classes.{has_class};
 ghost use Rattle.wf_frame.specs.declared.notes.Note.TheVariants.{Asked};
-ghost use Rattle.wf_frame.specs.declared.notes.Refusal.TheVariants.{BadRate, BadStation, BadTid, BadWindow, NoStation, Debt};
+ghost use Rattle.wf_frame.specs.declared.notes.Refusal.TheVariants.{BadBss, BadRate, BadStation, BadTid, BadWindow, NoStation, Debt};
 ghost use Rattle.wf_frame.specs.declared.classes.Class.TheVariants.{Bk, Be, Vi, Vo};
 ghost use Rattle.wf_def_lists.specs.Bounds.{greatest_tid, greatest_window, deepest_deficit};
 ghost use Rattle.wf_def_air.specs.Airtime.{is_rate};
+ghost use Rattle.wf_def_world.specs.Group.{bss_count};
 ghost use Rattle.wf_def_world.specs.Rates.{rate_asked, is_rate_with};
 ghost use Rattle.wf_def_world.specs.Service.{is_delivered};
 ghost use Rattle.wf_def_world.specs.World.{World, share, station as world_station};
@@ -262,6 +263,18 @@ impl Half {
         refuse_where(self.sleepers.asleep(station), Refusal::Asleep)
     }
 
+    // Checks a change of a station's BSS.
+    pub(crate) fn check_bss_of(&self, station: u16, bss: u8) -> Result<(), Refusal>
+        ensures refused { (w : World) (bodies : ℕ → FrameValue) → StandsFor self.now w bodies →
+            result_err result ≡ refusal w (Asked (Bss station bss)) }
+        ensures within { IfOk result (λ _. station < self.now.config.stations) }
+    {
+        self.in_range(station)?;
+        self.check_bss(bss)?;
+        self.live(station)?;
+        refuse_where(self.sleepers.asleep(station), Refusal::Asleep)
+    }
+
     // Checks a trigger, and returns the most urgent delivery-enabled class in which the station can send.
     pub(crate) fn check_trigger(&self, station: u16) -> Result<Class, Refusal>
         ensures refused { (w : World) (bodies : ℕ → FrameValue) → StandsFor self.now w bodies →
@@ -395,6 +408,15 @@ impl Half {
             self.config.stations <= u32::from(station),
             Refusal::BadStation,
         )
+    }
+
+    // Checks that there is a BSS of this number.
+    pub(crate) fn check_bss(&self, bss: u8) -> Result<(), Refusal>
+        ensures refused { result_err result ≡ (if nat_le (bss_count self.now.config.bsses) bss
+            then Some BadBss else None) }
+        ensures within { IfOk result (λ _. bss < bss_count self.now.config.bsses) }
+    {
+        refuse_where(self.bss_count() <= u32::from(bss), Refusal::BadBss)
     }
 
     // Checks the numbers of a station and of a TID, and that the station is live.

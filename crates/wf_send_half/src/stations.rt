@@ -2,7 +2,7 @@
 
 ghost use Rattle.std.specs.Prelude.{◌≡◌, ◌<◌, ◌≤◌, ◌^◌, ℕ, true, false, is_some, IfErr};
 ghost use Rattle.wf_frame.specs.Frames.{FrameValue};
-ghost use Rattle.wf_frame.specs.declared.notes.Ask.TheVariants.{Join, Plain, Offload, Rate, Tick, Sleep, Wake, Poll, Rx, Ampdu, Stop, Start};
+ghost use Rattle.wf_frame.specs.declared.notes.Ask.TheVariants.{Join, Plain, Offload, Rate, Tick, Sleep, Wake, Poll, Rx, Ampdu, Stop, Start, Bss};
 ghost use Rattle.wf_frame.specs.declared.notes.Note.TheVariants.{Asked};
 ghost use Rattle.wf_frame.specs.declared.notes.ReplyNote.TheVariants.{Joined, Set, Now, Slept, Woken, Polled, Charged, Stopped, Started};
 ghost use Rattle.wf_def_world.specs.World.{World};
@@ -142,6 +142,17 @@ impl Half {
     {
         self.check_ampdu(station, octets)?;
         self.members.set_ampdu(station, octets);
+        Ok(())
+    }
+
+    // Sets the BSS of a station (`Transmit::set_bss`).
+    pub(crate) fn set_bss(&mut self, station: u16, bss: u8) -> Result<(), Refusal>
+        ensures meets { (w : World) (bodies : ℕ → FrameValue) → StandsFor self.old w bodies →
+            Meets w bodies (Asked (Bss station bss)) self.new (reply_of_result (λ _. Set) result) }
+        ensures refused { IfErr result (λ _. self.new ≡ self.old) }
+    {
+        self.check_bss_of(station, bss)?;
+        self.sleepers.set_bss(station, bss);
         Ok(())
     }
 

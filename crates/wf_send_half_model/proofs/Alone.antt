@@ -43,7 +43,7 @@ use Rattle.wf_send_half_model.proofs.Endings.{sum_none}
 use Rattle.wf_send_half_model.proofs.Gives.{Placed, given_below}
 use Rattle.wf_send_half_model.proofs.Known.{open_state}
 use Rattle.wf_send_half_model.proofs.Moves.{with_session, session_own, session_other, session_is}
-use Rattle.wf_send_half_model.proofs.Stands.{StationsStand, LedgerStands, WindowsStand, ModesStand, Pieces, to_pieces, of_pieces}
+use Rattle.wf_send_half_model.proofs.Stands.{StationsStand, GroupsStand, LedgerStands, WindowsStand, ModesStand, Pieces, to_pieces, of_pieces}
 use Rattle.wf_send_half_model.proofs.Views.{agreements_session, roster_session, ledger_session}
 
 -- ---- the place of a frame that a number holds
@@ -288,7 +288,7 @@ module _ (v : TransmitValue) (w : World) (bodies : ℕ → FrameValue) (s t : �
           clock = p.clock ∙ ap (λ (r : Roster). r.clock) same;
           exchanges = p.exchanges ∙ ap (λ (r : Roster). r.exchanges) same;
           opened = p.opened ∙ ap (λ (r : Roster). r.opened) same;
-          group = p.group ∙ ap (λ (r : Roster). r.group) same;
+          groups = subst (λ (r : Roster). GroupsStand v.groups r.config r.groups) same p.groups;
           stations = subst (λ (r : Roster). StationsStand v.members v.sleepers r.config.stations r.stations)
               same p.stations;
           windows = subst (WindowsStand (with_window v.windows s t x) others) (sym only.agreements_are)

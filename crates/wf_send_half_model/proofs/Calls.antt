@@ -11,10 +11,10 @@ use Rattle.wf_def_air.specs.Airtime.{Rate}
 use Rattle.wf_def_world.specs.Rates.{rate_asked}
 use Rattle.wf_def_world.specs.World.{World, Station, Share, on_station, on_share}
 use Rattle.wf_def_world.specs.Service.{station_served, after_service}
-use Rattle.wf_def_world.specs.Step.{class_to_send, tick_outcome, rate_outcome, sleep_outcome, wake_outcome, poll_outcome, rx_outcome, reap_outcome, ampdu_outcome, stop_outcome, start_outcome, service_outcome}
+use Rattle.wf_def_world.specs.Step.{class_to_send, tick_outcome, rate_outcome, sleep_outcome, wake_outcome, poll_outcome, rx_outcome, reap_outcome, ampdu_outcome, stop_outcome, start_outcome, service_outcome, bss_outcome}
 use Rattle.wf_law_runs.proofs.Deficits.Books.{updc, updc_idle}
 use Rattle.wf_sched_refines.specs.Standing.{LeavesRotas, with_deficit_charged as with_turns_charged, share_in}
-use Rattle.wf_sched_refines.proofs.Unchanged.{rate_leaves, tick_leaves, slept_leaves, woken_leaves, credited_leaves, reaped_leaves, stated_leaves, stopped_leaves, started_leaves, served_leaves}
+use Rattle.wf_sched_refines.proofs.Unchanged.{rate_leaves, tick_leaves, slept_leaves, woken_leaves, credited_leaves, reaped_leaves, stated_leaves, stopped_leaves, started_leaves, served_leaves, moved_leaves}
 use Rattle.wf_sched_refines.proofs.Charges.{receive_stands}
 use Rattle.wf_queue_flows_refines.specs.Standing.{with_finished, ids}
 use Rattle.wf_queue_flows_refines.specs.Frames.{IsBodySettled}
@@ -27,7 +27,7 @@ use Rattle.wf_send_half_model.specs.Standing.{sleeper_of, Parts}
 use Rattle.wf_send_half_model.specs.Changes.{after_service_call}
 use Rattle.wf_send_half_model.specs.Views.{view_of, Roster, roster, ledger}
 use Rattle.wf_send_half_model.proofs.Views.{agreements_rest, roster_rest, reshared, view_reshared}
-use Rattle.wf_send_half_model.proofs.Stands.{WindowsStand, ModesStand, StationsStand, LedgerStands, Pieces, to_pieces, of_pieces}
+use Rattle.wf_send_half_model.proofs.Stands.{WindowsStand, ModesStand, StationsStand, GroupsStand, LedgerStands, Pieces, to_pieces, of_pieces}
 use Rattle.wf_send_half_model.proofs.Stations.{member_changed, rated, stated, receipted, station_parts, sleeper_parts}
 
 -- ---- the clock
@@ -42,7 +42,7 @@ tick_parts v w bodies by h =
       clock = ap (λ (n : ℕ). n + by) p.clock;
       exchanges = p.exchanges;
       opened = p.opened;
-      group = p.group;
+      groups = p.groups;
       stations = p.stations;
       windows = p.windows;
       modes = record { sized = p.modes.sized; each = p.modes.each };
@@ -52,7 +52,7 @@ tick_parts v w bodies by h =
       frames = p.frames;
     })
 
--- ---- a station's rate and length of aggregates, its sleep, credit and stops
+-- ---- a station's rate and length of aggregates, its sleep, credit, stops and BSS
 
 module _ (v : TransmitValue) (w : World) (bodies : ℕ → FrameValue) (s : ℕ) (low : s < w.config.stations)
     (h : Parts v w bodies) where
@@ -130,6 +130,15 @@ module _ (v : TransmitValue) (w : World) (bodies : ℕ → FrameValue) (s : ℕ)
       (start_outcome w s).world bodies
   start_parts = stopped_parts false (started_leaves w s)
 
+  pub bss_parts : (b : ℕ) → Parts (record v {
+    sleepers =
+        with_sleeper v.sleepers s (record (sleeper v.sleepers s) { bss = b });
+  })
+      (bss_outcome w s b).world bodies
+  bss_parts b =
+      sleeper_parts v w bodies s (λ x. record x { bss = b }) (λ y. record y { bss = b }) low
+      (λ x. refl) (λ x. refl) (moved_leaves w s b) h
+
   -- ---- a receive charge
 
   pub rx_parts : (c : Class) (air : ℕ) → Parts (record
@@ -203,7 +212,7 @@ reap_parts v w bodies f rest e h =
       clock = p.clock ∙ ap (λ (r : Roster). r.clock) same;
       exchanges = p.exchanges ∙ ap (λ (r : Roster). r.exchanges) same;
       opened = p.opened ∙ ap (λ (r : Roster). r.opened) same;
-      group = p.group ∙ ap (λ (r : Roster). r.group) same;
+      groups = subst (λ (r : Roster). GroupsStand v.groups r.config r.groups) same p.groups;
       stations = subst (λ (r : Roster). StationsStand v.members v.sleepers r.config.stations r.stations) same
           p.stations;
       windows = subst (WindowsStand v.windows bodies)

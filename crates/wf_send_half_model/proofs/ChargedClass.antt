@@ -3,7 +3,7 @@
 use Rattle.std.proofs.Common.{◌≡◌, refl, ap, sym, ◌∙◌, subst, arith, ℕ, ◌+◌, ◌==◌, Bool, true, false, not, ◌&&◌, if◌then◌else◌, List, [], ◌∷◌, ◌++◌, filter, map, Option, Some, None, inl, inr}
 use Rattle.std.proofs.lemmas.Bool.{cases_Bool, ne_eqb}
 use Rattle.wf_frame.specs.declared.classes.Class.{Class}
-use Rattle.wf_frame.specs.declared.notes.Ask.TheVariants.{Join, Leave, Rate, Tick, Pull, Arrive, Answer, Done, Sleep, Wake, Poll, Rx, Reap, Ampdu, Stop, Start, Unsent, GiveUp, Flush, Offload, Weight, Hold, Begin, Free, Cease, Group, Service}
+use Rattle.wf_frame.specs.declared.notes.Ask.TheVariants.{Join, Leave, Rate, Tick, Pull, Arrive, Answer, Done, Sleep, Wake, Poll, Rx, Reap, Ampdu, Stop, Start, Unsent, GiveUp, Flush, Offload, Weight, Hold, Begin, Free, Cease, Group, Service, Bss}
 use Rattle.wf_frame.specs.declared.notes.Ask.TheVariants as call
 use Rattle.wf_frame.specs.declared.notes.Note.{Note}
 use Rattle.wf_frame.specs.declared.notes.Limits.{Limits}
@@ -21,7 +21,7 @@ use Rattle.wf_def_world.specs.Step.{Outcome, outcome_of, after_refusal, judged_o
 use Rattle.wf_def_world.specs.Run.{Entry, world_after}
 use Rattle.wf_law_rules.proofs.Lemmas.Numbers.{on_if}
 use Rattle.wf_law_runs.proofs.Deficits.Books.{Books, books, core}
-use Rattle.wf_law_runs.proofs.Deficits.BookSteps.{books_after_turn, books_prepared, books_sent, books_ended, books_gone, books_enqueued, books_received, books_reaped, books_slept, books_woken, books_credited, books_with_rate, books_joined, books_after_pick, books_stated, books_stopped, books_started, books_flushed, books_offloaded, books_joined_plain, books_weighed, books_held, books_begun, books_freed, books_ceased, books_served}
+use Rattle.wf_law_runs.proofs.Deficits.BookSteps.{books_after_turn, books_prepared, books_sent, books_ended, books_gone, books_enqueued, books_received, books_reaped, books_slept, books_woken, books_credited, books_with_rate, books_joined, books_after_pick, books_stated, books_stopped, books_started, books_flushed, books_offloaded, books_joined_plain, books_weighed, books_held, books_begun, books_freed, books_ceased, books_served, books_moved}
 use Rattle.wf_law_runs.proofs.Deficits.Kept.{IsKept}
 use Rattle.wf_law_runs.proofs.Deficits.KeptStep.{IsFound, books_arrived, books_answered, books_marked, kept_step, kept_opening}
 use Rattle.wf_law_runs.proofs.Deficits.Openings.{Every, every_append, every_filter}
@@ -124,6 +124,7 @@ own_done (Asked (Done e heard air)) w k i = own_open w e (exchange w e) _ refl i
     (every_filter (λ y. class_of y.tid ≡ y.class) (λ y. not (y.number == x.number)) (books w).opened i))
 own_done (Asked (Sleep s)) w k i = own_is _ _ (books_slept w s) i
 own_done (Asked (Ampdu s octets)) w k i = own_is _ _ (books_stated w s octets) i
+own_done (Asked (Bss s b)) w k i = own_is _ _ (books_moved w s b) i
 own_done (Asked (Stop s)) w k i = own_is _ _ (books_stopped w s) i
 own_done (Asked (Service ask)) w k i = own_is _ _ (books_served w ask) i
 own_done (Asked (Start s)) w k i = own_is _ _ (books_started w s) i

@@ -75,7 +75,7 @@ close_parts v w bodies x known rises h =
       exchanges = p.exchanges;
       opened = ap (λ (xs : List Open). filter (λ (y : Open). not (y.number == e)) xs) p.opened
           ∙ others_open w.opened e;
-      group = p.group;
+      groups = p.groups;
       stations = p.stations;
       windows = p.windows;
       modes = record { sized = p.modes.sized; each = p.modes.each };

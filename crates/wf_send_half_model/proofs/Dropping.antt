@@ -44,7 +44,7 @@ use Rattle.wf_send_half_model.specs.Ending.{after_finish}
 use Rattle.wf_send_half_model.specs.Leaving.{with_left, HasDropped}
 use Rattle.wf_send_half_model.specs.Views.{Roster, roster, ledger}
 use Rattle.wf_send_half_model.proofs.Views.{agreements_rest, roster_rest}
-use Rattle.wf_send_half_model.proofs.Stands.{WindowsStand, ModesStand, StationsStand, LedgerStands, Pieces, to_pieces, of_pieces}
+use Rattle.wf_send_half_model.proofs.Stands.{WindowsStand, ModesStand, StationsStand, GroupsStand, LedgerStands, Pieces, to_pieces, of_pieces}
 use Rattle.wf_send_half_model.proofs.Ledgers.{counts_by}
 use Rattle.wf_send_half_model.proofs.Moves.{finish_parts}
 
@@ -282,7 +282,7 @@ module _ (before : TransmitValue) (w : World) (bodies : ℕ → FrameValue) (s t
           clock = p.clock ∙ ap (λ (r : Roster). r.clock) same;
           exchanges = p.exchanges ∙ ap (λ (r : Roster). r.exchanges) same;
           opened = p.opened ∙ ap (λ (r : Roster). r.opened) same;
-          group = p.group ∙ ap (λ (r : Roster). r.group) same;
+          groups = subst (λ (r : Roster). GroupsStand before.groups r.config r.groups) same p.groups;
           stations = subst (λ (r : Roster). StationsStand before.members before.sleepers r.config.stations
               r.stations) same p.stations;
           windows = subst (WindowsStand before.windows bodies)

@@ -40,7 +40,7 @@ use Rattle.wf_send_half_model.specs.Changes.{after_listing_in, after_enqueue}
 use Rattle.wf_send_half_model.specs.Counting.{with_overlimit}
 use Rattle.wf_send_half_model.specs.Views.{Roster, roster, Ledger, ledger}
 use Rattle.wf_send_half_model.proofs.Views.{agreements_rest, roster_rest, ledger_queue, ledger_queues}
-use Rattle.wf_send_half_model.proofs.Stands.{WindowsStand, ModesStand, StationsStand, Pieces, to_pieces, of_pieces}
+use Rattle.wf_send_half_model.proofs.Stands.{WindowsStand, ModesStand, StationsStand, GroupsStand, Pieces, to_pieces, of_pieces}
 use Rattle.wf_send_half_model.proofs.Reached.{by_law}
 use Rattle.wf_send_half_model.proofs.Meets.{listed_in_meets}
 use Rattle.wf_send_half_model.proofs.OneClass.{enqueue_listed}
@@ -138,7 +138,7 @@ enqueue_parts v w bodies f places live low_s low_t next stamp source fate h =
       clock = p.clock ∙ ap (λ (r : Roster). r.clock) same;
       exchanges = p.exchanges ∙ ap (λ (r : Roster). r.exchanges) same;
       opened = p.opened ∙ ap (λ (r : Roster). r.opened) same;
-      group = p.group ∙ ap (λ (r : Roster). r.group) same;
+      groups = subst (λ (r : Roster). GroupsStand v.groups r.config r.groups) same p.groups;
       stations = subst (λ (r : Roster). StationsStand v.members v.sleepers r.config.stations r.stations) same
           p.stations;
       windows = subst (WindowsStand v.windows (with_body bodies f))

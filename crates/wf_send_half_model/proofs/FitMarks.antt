@@ -7,7 +7,7 @@ use Rattle.std.proofs.lemmas.Bool.{leb-false, cases_eq, cases_lt, ne_eqb, or_lef
 use Rattle.std.proofs.lemmas.List.{length-map}
 use Rattle.std.proofs.lemmas.List.Folds.{list_all-append}
 use Rattle.wf_frame.specs.declared.classes.Class.{Class}
-use Rattle.wf_frame.specs.declared.notes.Ask.TheVariants.{Join, Leave, Rate, Tick, Pull, Arrive, Answer, Done, Sleep, Wake, Poll, Rx, Reap, Ampdu, Stop, Start, Unsent, GiveUp, Flush, Offload, Weight, Hold, Begin, Free, Cease, Group, Service}
+use Rattle.wf_frame.specs.declared.notes.Ask.TheVariants.{Join, Leave, Rate, Tick, Pull, Arrive, Answer, Done, Sleep, Wake, Poll, Rx, Reap, Ampdu, Stop, Start, Unsent, GiveUp, Flush, Offload, Weight, Hold, Begin, Free, Cease, Group, Service, Bss}
 use Rattle.wf_frame.specs.declared.notes.Ask.TheVariants as call
 use Rattle.wf_frame.specs.declared.notes.Limits.{Limits}
 use Rattle.wf_frame.specs.declared.notes.Note.{Note}
@@ -291,6 +291,7 @@ fit_done (Asked (Rx s c air)) w rows i all = fit_same (same_on_share w s c _).op
 fit_done (Asked Reap) w rows i all = fit_reaped w.finished w all
 fit_done (Asked (Group ask)) w rows i all = all
 fit_done (Asked (Ampdu s octets)) w rows i all = fit_same (station_opened w s _) all
+fit_done (Asked (Bss s b)) w rows i all = fit_same (station_opened w s _) all
 fit_done (Asked (Stop s)) w rows i all = fit_same (station_opened w s _) all
 fit_done (Asked (Service ask)) w rows i all = fit_same (station_opened w (station_served ask) _) all
 fit_done (Asked (Start s)) w rows i all = fit_same (station_opened w s _) all

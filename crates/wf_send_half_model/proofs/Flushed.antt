@@ -40,7 +40,7 @@ use Rattle.wf_send_half_model.proofs.Dropping.{held_counted, finished_known, led
 use Rattle.wf_send_half_model.proofs.Leavings.{HasPlace, has_place}
 use Rattle.wf_send_half_model.proofs.Meets.{listed_meets}
 use Rattle.wf_send_half_model.proofs.Reached.{by_law}
-use Rattle.wf_send_half_model.proofs.Stands.{WindowsStand, ModesStand, StationsStand, LedgerStands, Pieces, to_pieces, of_pieces}
+use Rattle.wf_send_half_model.proofs.Stands.{WindowsStand, ModesStand, StationsStand, GroupsStand, LedgerStands, Pieces, to_pieces, of_pieces}
 use Rattle.wf_send_half_model.proofs.Views.{agreements_rest, roster_rest}
 
 session_notes : (w : World) (s t : ℕ) (f : Session → Session) → notes (on_session w s t f) ≡ notes w
@@ -172,7 +172,7 @@ module _ (before v : TransmitValue) (w : World) (bodies : ℕ → FrameValue) (s
         clock = p.clock ∙ ap (λ (r : Roster). r.clock) same;
         exchanges = p.exchanges ∙ ap (λ (r : Roster). r.exchanges) same;
         opened = p.opened ∙ ap (λ (r : Roster). r.opened) same;
-        group = p.group ∙ ap (λ (r : Roster). r.group) same;
+        groups = subst (λ (r : Roster). GroupsStand v.groups r.config r.groups) same p.groups;
         stations = subst (λ (r : Roster). StationsStand v.members v.sleepers r.config.stations r.stations)
             same p.stations;
         windows = subst (WindowsStand v.windows bodies) (sym (agreements_rest now gone same_rest)) p.windows;

@@ -40,7 +40,7 @@ use Rattle.wf_send_half_model.specs.Standing.{counts_in, Parts, StandsFor, Meets
 use Rattle.wf_send_half_model.specs.Leaving.{after_leave, with_left, AreEmptied, IsLeaving}
 use Rattle.wf_send_half_model.specs.Views.{Agreements, agreements, Roster, roster, ledger, HasSameViews}
 use Rattle.wf_send_half_model.proofs.Views.{agreements_with_station, with_view, roster_with_station, ledger_by}
-use Rattle.wf_send_half_model.proofs.Stands.{WindowsStand, ModesStand, StationsStand, LedgerStands, Pieces, to_pieces, of_pieces}
+use Rattle.wf_send_half_model.proofs.Stands.{WindowsStand, ModesStand, StationsStand, GroupsStand, LedgerStands, Pieces, to_pieces, of_pieces}
 use Rattle.wf_send_half_model.proofs.Stations.{station_replaced}
 use Rattle.wf_send_half_model.proofs.Listings.{views_here, views_then, views_rotation}
 use Rattle.wf_send_half_model.proofs.Reached.{by_law}
@@ -183,7 +183,7 @@ module _ (before v : TransmitValue) (w : World) (bodies : ℕ → FrameValue) (s
         clock = p.clock ∙ ap (λ (r : Roster). r.clock) e;
         exchanges = p.exchanges ∙ ap (λ (r : Roster). r.exchanges) e;
         opened = p.opened ∙ ap (λ (r : Roster). r.opened) e;
-        group = p.group ∙ ap (λ (r : Roster). r.group) e;
+        groups = subst (λ (r : Roster). GroupsStand before.groups r.config r.groups) e p.groups;
         stations = subst (λ (r : Roster). StationsStand
             (set before.members s None) before.sleepers r.config.stations r.stations) e
             (subst (λ (ys : List Sleeper). StationsStand (set before.members s None) ys

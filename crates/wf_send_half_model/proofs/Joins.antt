@@ -31,7 +31,7 @@ use Rattle.wf_send_half_model.specs.Standing.{Parts}
 use Rattle.wf_send_half_model.specs.Changes.{AreReset, AreSet}
 use Rattle.wf_send_half_model.specs.Views.{Agreements, agreements, view_of, Roster, roster}
 use Rattle.wf_send_half_model.proofs.Views.{agreements_with_station, with_view, roster_with_station}
-use Rattle.wf_send_half_model.proofs.Stands.{WindowsStand, ModesStand, IsOfView, StationsStand, Pieces, to_pieces, of_pieces}
+use Rattle.wf_send_half_model.proofs.Stands.{WindowsStand, ModesStand, IsOfView, StationsStand, GroupsStand, Pieces, to_pieces, of_pieces}
 use Rattle.wf_send_half_model.proofs.Stations.{station_replaced}
 
 -- ---- the station
@@ -166,7 +166,7 @@ admitted_parts v w bodies after modes mode s window start exponent weight offloa
       clock = p.clock ∙ ap (λ (z : Roster). z.clock) r;
       exchanges = p.exchanges ∙ ap (λ (z : Roster). z.exchanges) r;
       opened = p.opened ∙ ap (λ (z : Roster). z.opened) r;
-      group = p.group ∙ ap (λ (z : Roster). z.group) r;
+      groups = subst (λ (r : Roster). GroupsStand v.groups r.config r.groups) r p.groups;
       stations = subst (λ (z : Roster). StationsStand (set v.members s (Some (new_member exponent offloaded)))
           (with_sleeper v.sleepers s awake) z.config.stations z.stations) r
           (station_replaced v.members v.sleepers w.config.stations (roster w).stations s

@@ -41,7 +41,7 @@ use Rattle.wf_send_half_model.proofs.Endings.{open_live, numbered_each, flown_ea
 use Rattle.wf_send_half_model.proofs.Enqueues.{places_kept}
 use Rattle.wf_send_half_model.proofs.Meets.{idle_meets}
 use Rattle.wf_send_half_model.proofs.Reached.{rises}
-use Rattle.wf_send_half_model.proofs.Stands.{WindowsStand, ModesStand, StationsStand, LedgerStands, Pieces, to_pieces, of_pieces}
+use Rattle.wf_send_half_model.proofs.Stands.{WindowsStand, ModesStand, StationsStand, GroupsStand, LedgerStands, Pieces, to_pieces, of_pieces}
 use Rattle.wf_send_half_model.proofs.Unheard.{marked, one_marked, agreements_exchange, ledger_exchange}
 use Rattle.wf_send_half_model.proofs.Debts.{debtor_marked}
 use Rattle.wf_send_half_model.proofs.Spared.{orderly_reached}
@@ -73,7 +73,7 @@ module _ (v : TransmitValue) (w : World) (bodies : ℕ → FrameValue) (e : ℕ)
         clock = p.clock ∙ sym (ap (λ (r : Roster). r.clock) now);
         exchanges = p.exchanges ∙ sym (ap (λ (r : Roster). r.exchanges) now);
         opened = ap (with_exchange_changed e f) p.opened ∙ sym (ap (λ (r : Roster). r.opened) now);
-        group = p.group ∙ sym (ap (λ (r : Roster). r.group) now);
+        groups = subst (λ (r : Roster). GroupsStand v.groups r.config r.groups) (sym now) p.groups;
         stations = subst (λ (r : Roster). StationsStand v.members v.sleepers r.config.stations r.stations)
             (sym now) p.stations;
         windows = subst (WindowsStand v.windows bodies) (sym (agreements_exchange w z)) p.windows;

@@ -38,7 +38,7 @@ use Rattle.wf_send_half_model.proofs.Drained.{drained, drained_after}
 use Rattle.wf_send_half_model.proofs.Leavings.{live_of}
 use Rattle.wf_send_half_model.proofs.Meets.{listed_meets}
 use Rattle.wf_send_half_model.proofs.Moves.{with_session, session_own, session_other}
-use Rattle.wf_send_half_model.proofs.Stands.{WindowsStand, ModesStand, StationsStand, LedgerStands, Pieces, to_pieces, of_pieces}
+use Rattle.wf_send_half_model.proofs.Stands.{WindowsStand, ModesStand, StationsStand, GroupsStand, LedgerStands, Pieces, to_pieces, of_pieces}
 use Rattle.wf_send_half_model.proofs.Views.{agreements_tid, roster_on_tid, ledger_tid}
 
 -- ---- one TID
@@ -81,7 +81,7 @@ tid_parts v w bodies s t f x mode live low queues room stands is h =
       clock = p.clock ∙ ap (λ (r : Roster). r.clock) same;
       exchanges = p.exchanges ∙ ap (λ (r : Roster). r.exchanges) same;
       opened = p.opened ∙ ap (λ (r : Roster). r.opened) same;
-      group = p.group ∙ ap (λ (r : Roster). r.group) same;
+      groups = subst (λ (r : Roster). GroupsStand v.groups r.config r.groups) same p.groups;
       stations = subst (λ (r : Roster). StationsStand v.members v.sleepers r.config.stations r.stations) same
           p.stations;
       windows = subst (WindowsStand (with_window v.windows s t x) bodies)

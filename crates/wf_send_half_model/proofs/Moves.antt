@@ -23,7 +23,7 @@ use Rattle.wf_send_half_model.specs.Standing.{Parts}
 use Rattle.wf_send_half_model.specs.Ending.{after_finish}
 use Rattle.wf_send_half_model.specs.Views.{Agreements, agreements, Roster, roster}
 use Rattle.wf_send_half_model.proofs.Views.{agreements_rest, roster_rest, agreements_session, roster_session, ledger_session}
-use Rattle.wf_send_half_model.proofs.Stands.{WindowsStand, ModesStand, StationsStand, LedgerStands, Pieces, to_pieces, of_pieces}
+use Rattle.wf_send_half_model.proofs.Stands.{WindowsStand, ModesStand, StationsStand, GroupsStand, LedgerStands, Pieces, to_pieces, of_pieces}
 use Rattle.wf_send_half_model.proofs.Ledgers.{ledger_finish}
 
 -- ---- one window
@@ -61,7 +61,7 @@ session_parts v w bodies s t f x live low room stands h =
       clock = p.clock ∙ ap (λ (r : Roster). r.clock) same;
       exchanges = p.exchanges ∙ ap (λ (r : Roster). r.exchanges) same;
       opened = p.opened ∙ ap (λ (r : Roster). r.opened) same;
-      group = p.group ∙ ap (λ (r : Roster). r.group) same;
+      groups = subst (λ (r : Roster). GroupsStand v.groups r.config r.groups) same p.groups;
       stations = subst (λ (r : Roster). StationsStand v.members v.sleepers r.config.stations r.stations) same
           p.stations;
       windows = subst (WindowsStand (with_window v.windows s t x) bodies)
@@ -103,7 +103,7 @@ finish_parts v w bodies f low held other nowhere body h =
       clock = p.clock ∙ ap (λ (r : Roster). r.clock) same;
       exchanges = p.exchanges ∙ ap (λ (r : Roster). r.exchanges) same;
       opened = p.opened ∙ ap (λ (r : Roster). r.opened) same;
-      group = p.group ∙ ap (λ (r : Roster). r.group) same;
+      groups = subst (λ (r : Roster). GroupsStand v.groups r.config r.groups) same p.groups;
       stations = subst (λ (r : Roster). StationsStand v.members v.sleepers r.config.stations r.stations) same
           p.stations;
       windows = subst (WindowsStand v.windows bodies)

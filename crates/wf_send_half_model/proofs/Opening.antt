@@ -7,6 +7,7 @@ use Rattle.std.proofs.lemmas.List.Elements.{All-nil, All-same}
 use Rattle.wf_frame.specs.declared.settings.Config.{Config}
 use Rattle.wf_frame.specs.Frames.{FrameValue}
 use Rattle.wf_frame.specs.Settings.{IsInRange}
+use Rattle.wf_def_world.specs.Group.{bss_count, no_group}
 use Rattle.wf_def_world.specs.World.{opening}
 use Rattle.wf_def_world.specs.Run.{world_after}
 use Rattle.wf_queue_flows.specs.Backlog.{frames_at}
@@ -14,6 +15,7 @@ use Rattle.wf_queue_flows.specs.Flows.{empty_flows}
 use Rattle.wf_queue_flows_refines.specs.Frames.{IsBody, IsBodySettled}
 use Rattle.wf_queue_flows_refines.proofs.Opening.{read_replicate, no_frames, stands_opening}
 use Rattle.wf_sched_refines.proofs.Readings.{opening_stands}
+use Rattle.wf_send_parts.specs.Group.{no_group_frames, group_state, group_at}
 use Rattle.wf_send_parts.specs.Window.{WindowValue}
 use Rattle.wf_send_parts.specs.Windows.{new_window, no_window}
 use Rattle.wf_send_parts.specs.declared.stations.members.Member.{Member}
@@ -52,6 +54,13 @@ module _ (c : Config) (bodies : ℕ → FrameValue) where
     };
   }
 
+no_groups : (n buffered b : ℕ) → group_state (group_at (replicate n (no_group_frames buffered)) b) ≡ no_group
+no_groups n buffered b = elim (cases_lt b n) [
+  | inl low ↦ ap group_state (get_or-replicate n b (no_group_frames buffered) (no_group_frames 0) low)
+  | inr past ↦ ap group_state (get_or_past (replicate n (no_group_frames buffered)) b (no_group_frames 0)
+      (omega (arith, past, length-replicate n (no_group_frames buffered))))
+]
+
 pub new_stands : (c : Config) (bodies : ℕ → FrameValue) → IsInRange c →
     StandsFor (opening_half c) (opening c) bodies
 unfolding world_after
@@ -76,7 +85,10 @@ new_stands c bodies range = record {
       };
       inside = refl;
       tally = refl;
-      group = refl;
+      groups = record {
+        sized = length-replicate (bss_count c.bsses) (no_group_frames c.buffered);
+        each = no_groups (bss_count c.bsses) c.buffered;
+      };
       frames = record {
         queued = λ q. All-same (IsBody bodies) (frames_at (empty_flows c).backlog q) [] (no_frames c q)
             (All-nil (IsBody bodies));

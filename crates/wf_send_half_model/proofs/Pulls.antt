@@ -98,7 +98,7 @@ bounded_parts v w bodies b h =
       clock = p.clock;
       exchanges = p.exchanges;
       opened = p.opened;
-      group = p.group;
+      groups = p.groups;
       stations = p.stations;
       windows = p.windows;
       modes = record { sized = p.modes.sized; each = p.modes.each };
@@ -238,7 +238,7 @@ open_parts v w bodies x h =
       config = p.config;
       clock = p.clock;
       exchanges = ap (λ (n : ℕ). n + 1) p.exchanges;
-      group = p.group;
+      groups = p.groups;
       opened = ap (λ (xs : List Open). xs ++ open_of x ∷ []) p.opened
           ∙ sym (map-append open_of w.opened (x ∷ []));
       stations = p.stations;

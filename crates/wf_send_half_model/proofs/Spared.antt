@@ -10,7 +10,7 @@ use Rattle.wf_frame.specs.declared.notes.Note.{Note}
 use Rattle.wf_frame.specs.declared.notes.Limits.{Limits}
 use Rattle.wf_law_runs.proofs.Common.Picked.{picked_world}
 use Rattle.wf_frame.specs.declared.notes.Note.TheVariants.{Enqueue, Asked}
-use Rattle.wf_frame.specs.declared.notes.Ask.TheVariants.{Join, Leave, Rate, Tick, Pull, Arrive, Answer, Done, Sleep, Wake, Poll, Rx, Reap, Ampdu, Stop, Start, Unsent, GiveUp, Flush, Offload, Weight, Hold, Begin, Free, Cease, Group, Service}
+use Rattle.wf_frame.specs.declared.notes.Ask.TheVariants.{Join, Leave, Rate, Tick, Pull, Arrive, Answer, Done, Sleep, Wake, Poll, Rx, Reap, Ampdu, Stop, Start, Unsent, GiveUp, Flush, Offload, Weight, Hold, Begin, Free, Cease, Group, Service, Bss}
 use Rattle.wf_frame.specs.declared.notes.Ask.TheVariants as call
 use Rattle.wf_frame.specs.declared.notes.Refusal.{Refusal}
 use Rattle.wf_frame.specs.declared.notes.Refusal.TheVariants.{Idle}
@@ -401,6 +401,7 @@ long_done (Asked (Done e heard air)) w s t q r keeps other spared k =
     long_open (exchange w e) w (λ x. done_outcome w x heard air) q (λ x. shelves_ended air w x heard)
 long_done (Asked (Sleep i)) w s t q r keeps other spared k = long_on_station w i q _
 long_done (Asked (Ampdu i octets)) w s t q r keeps other spared k = long_on_station w i q _
+long_done (Asked (Bss i b)) w s t q r keeps other spared k = long_on_station w i q _
 long_done (Asked (Stop i)) w s t q r keeps other spared k = long_on_station w i q _
 long_done (Asked (Start i)) w s t q r keeps other spared k = long_on_station w i q _
 long_done (Asked (Service ask)) w s t q r keeps other spared k =

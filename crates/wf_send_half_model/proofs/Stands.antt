@@ -2,11 +2,13 @@
 -- each view (`Pieces`), and put together again.
 use Rattle.std.proofs.Common.{◌≡◌, refl, ap, sym, ◌∙◌, subst, ℕ, ◌*◌, ◌<◌, true, List, length, Option, Some, None, is_some, IfSome, unwrap_or, option_map}
 use Rattle.wf_frame.specs.declared.classes.Class.{Class}
+use Rattle.wf_frame.specs.declared.settings.Config.{Config}
 use Rattle.wf_frame.specs.Frames.{FrameValue}
 use Rattle.wf_def_lists.specs.Table.{at}
+use Rattle.wf_def_world.specs.Group.{GroupState, bss_count, no_group}
 use Rattle.wf_def_world.specs.World.{World, Station, no_station}
 use Rattle.wf_send_parts.specs.Tally.{Counts}
-use Rattle.wf_send_parts.specs.Group.{group_state}
+use Rattle.wf_send_parts.specs.Group.{GroupValue, group_state, group_at}
 use Rattle.wf_send_parts.specs.Window.{WindowValue}
 use Rattle.wf_send_parts.specs.Windows.{WindowsHaveRoom}
 use Rattle.wf_send_parts.specs.Many.{AllStand}
@@ -119,6 +121,12 @@ view_sleeper : (y : Sleeper) (o : Option Station) → IfSome (option_map view_of
 view_sleeper y None h is = absurd (cc is)
 view_sleeper y (Some x) h is = h
 
+-- ---- group frames
+
+pub record GroupsStand (groups : List GroupValue) (config : Config) (states : List GroupState) : Type 0 where
+  pub sized : length groups ≡ bss_count config.bsses
+  pub each : (b : ℕ) → group_state (group_at groups b) ≡ at no_group states b
+
 -- ---- the ledger
 
 pub record LedgerStands (inside : ℕ) (tally : Counts) (bodies : ℕ → FrameValue) (l : Ledger) : Type 0 where
@@ -140,7 +148,7 @@ pub record Pieces (v : TransmitValue) (w : World) (bodies : ℕ → FrameValue) 
   pub flows : FlowsStandFor v.flows w
   pub turns : TurnsStandFor v.sched w
   pub ledger : LedgerStands v.inside v.tally bodies (ledger w)
-  pub group : group_state v.group ≡ (roster w).group
+  pub groups : GroupsStand v.groups w.config (roster w).groups
   pub frames : HasFrames v.flows.backlog bodies
 
 pub to_pieces : (v : TransmitValue) (w : World) (bodies : ℕ → FrameValue) → Parts v w bodies →
@@ -161,7 +169,7 @@ to_pieces v w bodies h = record {
   flows = h.others.flows;
   turns = h.others.turns;
   ledger = record { count = h.others.inside; fates = h.others.tally; notes = h.others.notes };
-  group = h.others.group;
+  groups = record { sized = h.others.groups.sized; each = h.others.groups.each };
   frames = h.others.frames;
 }
 
@@ -184,7 +192,7 @@ of_pieces v w bodies h = record {
     modes = record { sized = h.modes.sized; each = h.modes.each };
     inside = h.ledger.count;
     tally = h.ledger.fates;
-    group = h.group;
+    groups = record { sized = h.groups.sized; each = h.groups.each };
     frames = h.frames;
     notes = h.ledger.notes;
   };
@@ -200,7 +208,7 @@ same_views v w u bodies turns same stands h =
       clock = p.clock ∙ ap (λ (r : Roster). r.clock) (sym same.roster);
       exchanges = p.exchanges ∙ ap (λ (r : Roster). r.exchanges) (sym same.roster);
       opened = p.opened ∙ ap (λ (r : Roster). r.opened) (sym same.roster);
-      group = p.group ∙ ap (λ (r : Roster). r.group) (sym same.roster);
+      groups = subst (λ (r : Roster). GroupsStand v.groups r.config r.groups) (sym same.roster) p.groups;
       stations = subst (λ (r : Roster). StationsStand v.members v.sleepers r.config.stations r.stations)
           (sym same.roster) p.stations;
       windows = subst (WindowsStand v.windows bodies) (sym same.agreements) p.windows;

@@ -20,7 +20,7 @@ use Rattle.wf_send_half_model.specs.Half.{TransmitValue}
 use Rattle.wf_send_half_model.specs.Standing.{AreBoth, Parts}
 use Rattle.wf_send_half_model.specs.Views.{StationView, view_of, Roster, roster}
 use Rattle.wf_send_half_model.proofs.Views.{agreements_station, with_view, roster_on_station, ledger_station}
-use Rattle.wf_send_half_model.proofs.Stands.{WindowsStand, ModesStand, IsOfView, IsSleeperOf, StationsStand, LedgerStands, Pieces, to_pieces, of_pieces}
+use Rattle.wf_send_half_model.proofs.Stands.{WindowsStand, ModesStand, IsOfView, IsSleeperOf, StationsStand, GroupsStand, LedgerStands, Pieces, to_pieces, of_pieces}
 
 -- ---- lists
 
@@ -228,7 +228,7 @@ station_parts v w bodies s f g members sleepers turns tids seen stands changes h
       clock = p.clock ∙ ap (λ (r : Roster). r.clock) e;
       exchanges = p.exchanges ∙ ap (λ (r : Roster). r.exchanges) e;
       opened = p.opened ∙ ap (λ (r : Roster). r.opened) e;
-      group = p.group ∙ ap (λ (r : Roster). r.group) e;
+      groups = subst (λ (r : Roster). GroupsStand v.groups r.config r.groups) e p.groups;
       stations = subst (λ (r : Roster). StationsStand members sleepers r.config.stations r.stations) e
           (changes p.stations);
       windows = subst (WindowsStand v.windows bodies) (sym (agreements_station w s f tids)) p.windows;

@@ -9,7 +9,7 @@ use Rattle.wf_frame.specs.declared.settings.Config.{Config}
 use Rattle.wf_frame.specs.declared.notes.AskedRate.{AskedRate}
 use Rattle.wf_frame.specs.declared.notes.Note.{Note}
 use Rattle.wf_frame.specs.declared.notes.Note.TheVariants.{Enqueue, Asked}
-use Rattle.wf_frame.specs.declared.notes.Ask.TheVariants.{Join, Leave, Rate, Tick, Pull, Arrive, Answer, Done, Sleep, Wake, Poll, Rx, Reap, Ampdu, Stop, Start, Unsent, GiveUp, Flush, Offload, Weight, Hold, Begin, Free, Cease, Group, Service}
+use Rattle.wf_frame.specs.declared.notes.Ask.TheVariants.{Join, Leave, Rate, Tick, Pull, Arrive, Answer, Done, Sleep, Wake, Poll, Rx, Reap, Ampdu, Stop, Start, Unsent, GiveUp, Flush, Offload, Weight, Hold, Begin, Free, Cease, Group, Service, Bss}
 use Rattle.wf_frame.specs.declared.notes.Ask.TheVariants as call
 use Rattle.wf_frame.specs.Classes.{all_classes, lower_tid, upper_tid}
 use Rattle.wf_def_lists.specs.Table.{at}
@@ -17,7 +17,7 @@ use Rattle.wf_def_rotation.specs.Rotation.{in_order}
 use Rattle.wf_def_agreement.specs.Receiver.{Receiver}
 use Rattle.wf_def_world.specs.World.{World, holds_back, Station, Share, Exchange, no_station, owed, exchange, on_station, with_station, on_tid, on_receiver, on_share, with_exchange}
 use Rattle.wf_def_world.specs.CanSend.{is_request, request_open, is_reachable, is_below_aql, may_receive, is_ready}
-use Rattle.wf_def_world.specs.Step.{Outcome, outcome_of, step, outcome_where_open, rate_outcome, tick_outcome, arrive_outcome, answer_outcome, unsent_outcome, give_up_outcome, rx_outcome, reap_outcome, ampdu_outcome, with_deficits_lowered, weight_outcome}
+use Rattle.wf_def_world.specs.Step.{Outcome, outcome_of, step, outcome_where_open, rate_outcome, tick_outcome, arrive_outcome, answer_outcome, unsent_outcome, give_up_outcome, rx_outcome, reap_outcome, ampdu_outcome, with_deficits_lowered, weight_outcome, bss_outcome}
 use Rattle.wf_law_rules.proofs.Lemmas.Tables.{each_put}
 use Rattle.wf_law_runs.proofs.Common.Marks.{marked_world}
 use Rattle.wf_law_runs.proofs.Deficits.Books.{Books, books, core}
@@ -66,14 +66,18 @@ steady_ready w v h c s = ready_same_by w v c s (ap (λ (a : Agreements). a.live 
 
 -- ---- a station changes, but not its TIDs, its power save or its stop
 
+-- a sleeper that is of BSS 0
+abbrev pub in_first : Sleeper → Sleeper
+in_first y = record y { bss = 0 }
+
 -- whether a station may receive in a class, if its airtime in flight is below the limit, or not
 abbrev pub receives : Class → Option Station → Bool → Bool
 receives c o below = not (unwrap_or o no_station).stopped
     && (is_reachable (unwrap_or o no_station) c && below)
 
--- the change does not affect power save and stop
+-- the change does not affect power save and stop; it may affect the BSS
 abbrev pub KeepsSleep : (Station → Station) → Type 0
-KeepsSleep f = (x : Station) → sleeper_of (f x) ≡ sleeper_of x
+KeepsSleep f = (x : Station) → in_first (sleeper_of (f x)) ≡ in_first (sleeper_of x)
 
 receives_mapped : (f : Station → Station) → KeepsSleep f → (c : Class) (below : Bool) (o : Option Station) →
     receives c (option_map f o) below ≡ receives c o below
@@ -116,6 +120,14 @@ steady_rated w i rate = record {
 
 steady_stated : (w : World) (i octets : ℕ) → IsSteady w (ampdu_outcome w i octets).world
 steady_stated w i octets = record {
+  part = station_alone w i _ (λ x. refl);
+  agreements = agreements_station w i _ (λ x. refl);
+  requests = requests_on_station w i _;
+  receives = receives_on_station w i _ (λ x. refl);
+}
+
+steady_moved : (w : World) (i b : ℕ) → IsSteady w (bss_outcome w i b).world
+steady_moved w i b = record {
   part = station_alone w i _ (λ x. refl);
   agreements = agreements_station w i _ (λ x. refl);
   requests = requests_on_station w i _;
@@ -283,6 +295,7 @@ steady_done (Asked (Pull d l)) w r h c s = absurd (cc h)
 steady_done (Asked (Done e heard air)) w r h c s = absurd (cc h)
 steady_done (Asked (Sleep i)) w r h c s = absurd (cc h)
 steady_done (Asked (Ampdu i octets)) w r h c s = steady_ready w _ (steady_stated w i octets) c s
+steady_done (Asked (Bss i b)) w r h c s = steady_ready w _ (steady_moved w i b) c s
 steady_done (Asked (Stop i)) w r h c s = absurd (cc h)
 steady_done (Asked (Start i)) w r h c s = absurd (cc h)
 steady_done (Asked (Service ask)) w r h c s = absurd (cc h)

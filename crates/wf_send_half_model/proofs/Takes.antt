@@ -34,7 +34,7 @@ use Rattle.wf_send_half_model.specs.Standing.{counts_in, Parts}
 use Rattle.wf_send_half_model.specs.Filling.{after_take}
 use Rattle.wf_send_half_model.specs.Views.{Roster, roster, Ledger, ledger}
 use Rattle.wf_send_half_model.proofs.Views.{agreements_rest, roster_rest, ledger_queue, ledger_queues}
-use Rattle.wf_send_half_model.proofs.Stands.{WindowsStand, ModesStand, StationsStand, LedgerStands, Pieces, to_pieces, of_pieces}
+use Rattle.wf_send_half_model.proofs.Stands.{WindowsStand, ModesStand, StationsStand, GroupsStand, LedgerStands, Pieces, to_pieces, of_pieces}
 use Rattle.wf_send_half_model.proofs.Ledgers.{ledger_finish}
 
 -- ---- many frames are dropped
@@ -208,7 +208,7 @@ take_parts v w bodies s t l placing fresh live low h =
       clock = p.clock ∙ ap (λ (r : Roster). r.clock) same;
       exchanges = p.exchanges ∙ ap (λ (r : Roster). r.exchanges) same;
       opened = p.opened ∙ ap (λ (r : Roster). r.opened) same;
-      group = p.group ∙ ap (λ (r : Roster). r.group) same;
+      groups = subst (λ (r : Roster). GroupsStand v.groups r.config r.groups) same p.groups;
       stations = subst (λ (r : Roster). StationsStand v.members v.sleepers r.config.stations r.stations) same
           p.stations;
       windows = subst (WindowsStand v.windows bodies) (sym (agreements_rest w u (rest_take w s t))) p.windows;

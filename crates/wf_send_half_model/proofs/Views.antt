@@ -200,17 +200,17 @@ agreements_tid w s t f live =
 
 pub roster_by : (u w : World) → u.config ≡ w.config → u.clock ≡ w.clock → u.exchanges ≡ w.exchanges →
     map open_of u.opened ≡ map open_of w.opened → (roster u).stations ≡ (roster w).stations →
-    u.group ≡ w.group → roster u ≡ roster w
-roster_by u w config clock exchanges opened stations group =
+    u.groups ≡ w.groups → roster u ≡ roster w
+roster_by u w config clock exchanges opened stations groups =
     ap (λ (c : Config). record (roster u) { config = c }) config
     ∙ ap₂ (λ (n m : ℕ). record (roster u) { config = w.config; clock = n; exchanges = m }) clock exchanges
     ∙ ap (λ (xs : List Open). record (roster w) {
       opened = xs;
       stations = (roster u).stations;
-      group = u.group;
+      groups = u.groups;
     }) opened
-    ∙ ap (λ (f : ℕ → Option StationView). record (roster w) { stations = f; group = u.group }) stations
-    ∙ ap (λ (g : GroupState). record (roster w) { group = g }) group
+    ∙ ap (λ (f : ℕ → Option StationView). record (roster w) { stations = f; groups = u.groups }) stations
+    ∙ ap (λ (gs : List GroupState). record (roster w) { groups = gs }) groups
 
 bare_view : (o p : Option Station) → option_map bare p ≡ option_map bare o →
     option_map view_of p ≡ option_map view_of o
@@ -225,7 +225,7 @@ pub roster_rest : (w u : World) → rest_of_world u ≡ rest_of_world w → rost
 roster_rest w u e = roster_by u w (ap (λ (r : Rest). r.config) e) (ap (λ (r : Rest). r.clock) e)
     (ap (λ (r : Rest). r.exchanges) e) (ap (λ (r : Rest). map open_of r.opened) e)
     (fun_ext (λ s. bare_view (at None w.stations s) (at None u.stations s)
-    (ap (λ (r : Rest). r.stations s) e))) (ap (λ (r : Rest). r.group) e)
+    (ap (λ (r : Rest). r.stations s) e))) (ap (λ (r : Rest). r.groups) e)
 
 pub roster_with_station : (w : World) (s : ℕ) (o : Option Station) →
     roster (with_station w s o) ≡ record (roster w) {

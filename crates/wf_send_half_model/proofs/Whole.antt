@@ -1,7 +1,7 @@
 -- Proves whole calls that move no frame, except that a reap takes one from the finished list: if the machine
 -- does not refuse them, the half with the call's changes represents the world after the step, and the reply
 -- is the step's.
-use Rattle.std.proofs.Common.{◌≡◌, refl, ap, sym, ◌∙◌, subst, arith, ℕ, ◌+◌, ◌-◌, ◌<◌, ◌==◌, pos, Bool, true, false, ◌&&◌, ◌||◌, List, ◌∷◌, length, Option, Some, None, is_some, option_map, inl, inr}
+use Rattle.std.proofs.Common.{◌≡◌, refl, ap, sym, ◌∙◌, subst, arith, ℕ, ◌+◌, ◌-◌, ◌<◌, ◌==◌, pos, Bool, true, false, not, ◌&&◌, ◌||◌, List, ◌∷◌, length, Option, Some, None, is_some, option_map, inl, inr}
 use Rattle.std.specs.Prelude.{nat_le, int_le}
 use Rattle.std.proofs.lemmas.Bool.{and_parts, leb-false}
 use Rattle.std.proofs.lemmas.List.{get_or-set_same}
@@ -9,7 +9,7 @@ use Rattle.wf_frame.specs.declared.classes.Class.{Class}
 use Rattle.wf_frame.specs.declared.notes.AskedRate.{AskedRate}
 use Rattle.wf_frame.specs.declared.notes.Note.TheVariants.{Asked}
 use Rattle.wf_frame.specs.declared.notes.Ask.TheVariants as call
-use Rattle.wf_frame.specs.declared.notes.Ask.TheVariants.{Join, Offload, Rate, Tick, Arrive, Answer, Sleep, Wake, Poll, Reap, Ampdu, Stop, Start, Service}
+use Rattle.wf_frame.specs.declared.notes.Ask.TheVariants.{Join, Offload, Rate, Tick, Arrive, Answer, Sleep, Wake, Poll, Reap, Ampdu, Stop, Start, Service, Bss}
 use Rattle.wf_frame.specs.declared.notes.ServiceAsk.{ServiceAsk}
 use Rattle.wf_frame.specs.declared.notes.ServiceAsk.TheVariants as service
 use Rattle.wf_frame.specs.declared.notes.Refusal.{Refusal}
@@ -25,7 +25,7 @@ use Rattle.wf_def_world.specs.World.{World, Exchange, rotation, is_live, exchang
 use Rattle.wf_def_world.specs.CanSend.{is_ready, is_debtor, is_to_list, with_listings_of}
 use Rattle.wf_def_world.specs.Refusals.{refusal, refusals}
 use Rattle.wf_def_world.specs.Service.{station_served}
-use Rattle.wf_def_world.specs.Step.{outcome_of, outcome_where_open, station_of, after_refusal, judged_outcome, step, arrive_outcome, answer_outcome, class_to_send, service_answer, tick_outcome, rate_outcome, sleep_outcome, wake_outcome, poll_outcome, rx_outcome, plain_window, join_outcome, offload_outcome, plain_outcome, ampdu_outcome}
+use Rattle.wf_def_world.specs.Step.{outcome_of, outcome_where_open, station_of, after_refusal, judged_outcome, step, arrive_outcome, answer_outcome, class_to_send, service_answer, tick_outcome, rate_outcome, sleep_outcome, wake_outcome, poll_outcome, rx_outcome, plain_window, join_outcome, offload_outcome, plain_outcome, ampdu_outcome, bss_outcome}
 use Rattle.wf_law_rules.proofs.Lemmas.Numbers.{either}
 use Rattle.wf_law_runs.proofs.Deficits.KeptStep.{NoRow, no_row}
 use Rattle.wf_law_runs.proofs.Deficits.Law.{deficits}
@@ -37,13 +37,14 @@ use Rattle.wf_send_parts.specs.declared.stations.members.Member.{Member}
 use Rattle.wf_send_parts.specs.declared.stations.modes.Mode.{Mode}
 use Rattle.wf_send_parts.specs.declared.stations.modes.Mode.TheVariants.{Agreed}
 use Rattle.wf_send_parts.specs.Members.{member, on_member, with_rate, with_ampdu}
-use Rattle.wf_send_parts.specs.Sleepers.{sleeper, with_sleeper, woken}
-use Rattle.wf_send_half_model.specs.Half.{TransmitValue, can_send_of, may_receive_of, is_to_list_of}
+use Rattle.wf_send_parts.specs.declared.stations.sleepers.Sleeper.{Sleeper}
+use Rattle.wf_send_parts.specs.Sleepers.{awake, sleeper, with_sleeper, woken, is_reachable_in}
+use Rattle.wf_send_half_model.specs.Half.{TransmitValue, can_send_of, is_below_aql_of, may_receive_of, is_debtor_of, is_to_list_of}
 use Rattle.wf_send_half_model.specs.Standing.{Parts, IsReached, StandsFor, Meets}
 use Rattle.wf_send_half_model.specs.Changes.{after_listing, AreReset, AreSet, after_admission, after_service_call}
 use Rattle.wf_send_half_model.proofs.Reached.{by_law, reached_step, rises, owes_nothing}
 use Rattle.wf_send_half_model.proofs.Readers.{to_list_same}
-use Rattle.wf_send_half_model.proofs.Calls.{tick_parts, rate_parts, sleep_parts, wake_parts, poll_parts, reap_parts, ampdu_parts, stop_parts, start_parts, service_parts}
+use Rattle.wf_send_half_model.proofs.Calls.{tick_parts, rate_parts, sleep_parts, wake_parts, poll_parts, reap_parts, ampdu_parts, stop_parts, start_parts, service_parts, bss_parts}
 use Rattle.wf_send_half_model.proofs.Joins.{admitted, join_parts, plain_parts, offload_parts}
 use Rattle.wf_send_half_model.proofs.Meets.{listed_none, listed_meets, unlisted_meets, idle_meets}
 use Rattle.wf_send_half_model.proofs.Listings.{nobody_new}
@@ -102,6 +103,16 @@ same_wanted v s f low c = ap (λ (b : Bool).
     || ((v.config.pending == 1) && (b && int_le (deficit v.sched c s) (pos 0))))
     (member_kept v.members s f low)
 
+-- a station's BSS does not decide whether it belongs on a list
+wanted_anywhere : (v : TransmitValue) (s b : ℕ) → s < length v.sleepers → (c : Class) →
+    is_to_list_of (record v {
+      sleepers = with_sleeper v.sleepers s (record (sleeper v.sleepers s) { bss = b });
+    }) c s ≡ is_to_list_of v c s
+wanted_anywhere v s b low c = ap (λ (y : Sleeper). (is_some (member v.members s)
+    && ((can_send_of v s (lower_tid c) || can_send_of v s (upper_tid c))
+    && (not y.stopped && (is_reachable_in y c && is_below_aql_of v s c)))) || is_debtor_of v c s)
+    (get_or-set_same v.sleepers s (record (sleeper v.sleepers s) { bss = b }) awake low)
+
 rate_lists : (w : World) (s : ℕ) (rate : AskedRate) (c : Class) →
     rotation (rate_outcome w s rate).world c ≡ rotation w c
 unfolding rate_outcome on_station with_station
@@ -116,6 +127,10 @@ ampdu_lists : (w : World) (s octets : ℕ) (c : Class) →
     rotation (ampdu_outcome w s octets).world c ≡ rotation w c
 unfolding on_station with_station
 ampdu_lists w s octets c = refl
+
+bss_lists : (w : World) (s b : ℕ) (c : Class) → rotation (bss_outcome w s b).world c ≡ rotation w c
+unfolding on_station with_station
+bss_lists w s b c = refl
 
 rate_reply : (w : World) (s : ℕ) (rate : AskedRate) → (rate_outcome w s rate).reply ≡ Set
 unfolding rate_outcome
@@ -241,6 +256,24 @@ module _ (v : TransmitValue) (w : World) (bodies : ℕ → FrameValue) (h : Stan
           idle_meets x w bodies (Asked (Ampdu s octets)) h.reached tt tt done k s refl
           (same_listed v x w (ampdu_outcome w s octets).world bodies s h.reached h.parts k
           (same_wanted v s (with_ampdu octets) (sized s low)) (ampdu_lists w s octets))
+
+  pub bss_meets : (s b : ℕ) → refusal w (Asked (Bss s b)) ≡ None →
+      Meets w bodies (Asked (Bss s b))
+      (record v { sleepers = with_sleeper v.sleepers s (record (sleeper v.sleepers s) { bss = b }) }) Set
+  unfolding outcome_of
+  bss_meets s b done =
+      let rows : NoRow (refusals w (Asked (Bss s b))) = no_row (refusals w (Asked (Bss s b))) done in
+      moved (below w s rows.0)
+    where
+      moved : s < w.config.stations → Meets w bodies (Asked (Bss s b))
+          (record v { sleepers = with_sleeper v.sleepers s (record (sleeper v.sleepers s) { bss = b }) }) Set
+      moved low =
+          let x : TransmitValue =
+          record v { sleepers = with_sleeper v.sleepers s (record (sleeper v.sleepers s) { bss = b }) } in
+          let k : Parts x (bss_outcome w s b).world bodies = bss_parts v w bodies s low h.parts b in
+          idle_meets x w bodies (Asked (Bss s b)) h.reached tt tt done k s refl
+          (same_listed v x w (bss_outcome w s b).world bodies s h.reached h.parts k
+          (wanted_anywhere v s b (omega (arith, low, h.parts.others.stations.sized.1))) (bss_lists w s b))
 
   pub stop_meets : (s : ℕ) → refusal w (Asked (Stop s)) ≡ None →
       Meets w bodies (Asked (Stop s)) (after_listing

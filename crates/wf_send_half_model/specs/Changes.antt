@@ -1,7 +1,8 @@
--- Defines changes that calls make to a transmit half: listings, new windows, and an enqueue.
+-- Defines changes that calls make to a transmit half: listings, new windows, an enqueue, and group frames.
 use Rattle.std.specs.Prelude.{◌≡◌, ◌≢◌, ◌<◌, ℕ, ◌+◌, ◌*◌, max, if◌then◌else◌, Bool, List, length, set, Some}
 use Rattle.wf_frame.specs.Classes.{all_classes, tid_number}
 use Rattle.wf_frame.specs.declared.classes.Class.{Class}
+use Rattle.wf_frame.specs.declared.notes.GroupCall.{GroupCall}
 use Rattle.wf_frame.specs.declared.notes.ServiceAsk.{ServiceAsk}
 use Rattle.wf_def_world.specs.Service.{station_served}
 use Rattle.wf_frame.specs.Frames.{FrameValue}
@@ -11,13 +12,14 @@ use Rattle.wf_queue_flows.specs.Flows.{dropped_for_limit, after_put}
 use Rattle.wf_sched.specs.ClassRotas.{after_join}
 use Rattle.wf_sched_refines.specs.Standing.{everywhere, with_listed, with_listed_where, with_weight}
 use Rattle.wf_send_parts.specs.Members.{new_member}
+use Rattle.wf_send_parts.specs.Group.{with_group, group_value_after}
 use Rattle.wf_send_parts.specs.declared.stations.modes.Mode.{Mode}
 use Rattle.wf_send_parts.specs.Modes.{mode_of, with_mode_of}
 use Rattle.wf_send_parts.specs.Sleepers.{awake, sleeper, with_sleeper, sleeper_after}
 use Rattle.wf_send_parts.specs.Window.{WindowValue, WindowStandsFor}
 use Rattle.wf_send_parts.specs.Windows.{WindowsHaveRoom, window_of, with_window}
 use Rattle.wf_send_half_model.specs.Counting.{with_overlimit}
-use Rattle.wf_send_half_model.specs.Half.{TransmitValue, is_ready_of, is_to_list_of, uncovered_air_of}
+use Rattle.wf_send_half_model.specs.Half.{TransmitValue, is_ready_of, is_to_list_of, uncovered_air_of, group_in, is_any_asleep_of}
 
 -- a station is listed in each class in which it belongs on a list
 abbrev pub after_listing : TransmitValue → ℕ → TransmitValue
@@ -71,8 +73,8 @@ after_enqueue v f =
       tally = with_overlimit (dropped_for_limit v.flows) (one_accepted v.tally);
     }
 
--- station s joins with these windows and modes: it has its quantum in each class, is awake and not stopped,
--- and is listed where it belongs on a list
+-- station s joins with these windows and modes: it has its quantum in each class, is awake, not stopped, and
+-- of BSS 0, and is listed where it belongs on a list
 abbrev pub after_admission : TransmitValue → List WindowValue → List Mode → ℕ → ℕ → ℕ → Bool → TransmitValue
 after_admission v windows modes s exponent weight offloaded =
     after_listing (record v {
@@ -88,6 +90,14 @@ abbrev pub after_service_call : TransmitValue → ServiceAsk → TransmitValue
 after_service_call v ask =
     let s : ℕ = station_served ask in
     record v { sleepers = with_sleeper v.sleepers s (sleeper_after ask (sleeper v.sleepers s)) }
+
+-- the half after a call about the group frames of a BSS; a frame that the call accepts has this tag and this
+-- destination
+abbrev pub after_group_call : TransmitValue → GroupCall → ℕ → List ℕ → TransmitValue
+after_group_call v g tag to = record v {
+  groups = with_group v.groups g.bss
+      (group_value_after v.config (is_any_asleep_of v g.bss) g.ask tag to (group_in v g.bss));
+}
 
 -- station s has this weight: its quantum in each class becomes another one, and each of its deficits is
 -- lowered to what the quantum allows

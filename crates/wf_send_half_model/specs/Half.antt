@@ -7,6 +7,7 @@ use Rattle.wf_frame.specs.declared.classes.Class.{Class}
 use Rattle.wf_frame.specs.Classes.{lower_tid, upper_tid, tid_number}
 use Rattle.wf_frame.specs.Frames.{FrameValue}
 use Rattle.wf_def_lists.specs.Table.{upto}
+use Rattle.wf_def_world.specs.Group.{bss_count}
 use Rattle.wf_def_world.specs.World.{has_agreement, holds_back}
 use Rattle.wf_def_world.specs.Exchanges.{longest_computed}
 use Rattle.wf_queue_flows.specs.Flows.{FlowsValue, empty_flows, frames_of_tid}
@@ -25,7 +26,7 @@ use Rattle.wf_send_parts.specs.Modes.{as_mode, mode_of}
 use Rattle.wf_send_parts.specs.declared.stations.sleepers.Sleeper.{Sleeper}
 use Rattle.wf_send_parts.specs.Sleepers.{awake, sleeper, is_reachable_in}
 use Rattle.wf_send_parts.specs.Tally.{Counts, no_counts}
-use Rattle.wf_send_parts.specs.Group.{GroupValue, no_group_frames}
+use Rattle.wf_send_parts.specs.Group.{GroupValue, no_group_frames, group_at}
 
 -- what the transmit half keeps
 pub record TransmitValue : Type 0 where
@@ -41,7 +42,7 @@ pub record TransmitValue : Type 0 where
   pub sleepers : List Sleeper  -- by station
   pub opened : List Open  -- in the order of their numbers
   pub tally : Counts
-  pub group : GroupValue  -- the group frames and the beacons
+  pub groups : List GroupValue  -- the group frames and the beacons, by BSS
 
 -- a new half: no station is live, it holds no frames, and no window has a number
 abbrev pub opening_half : Config → TransmitValue
@@ -58,7 +59,7 @@ opening_half c = record {
   sleepers = replicate c.stations awake;
   opened = [];
   tally = no_counts;
-  group = no_group_frames c.buffered;
+  groups = replicate (bss_count c.bsses) (no_group_frames c.buffered);
 }
 
 -- ---- queries
@@ -140,13 +141,19 @@ is_debtor_of v c s = (v.config.pending == 1)
 abbrev pub is_to_list_of : TransmitValue → Class → ℕ → Bool
 is_to_list_of v c s = is_ready_of v c s || is_debtor_of v c s
 
--- whether a station is live and sleeps
-abbrev pub is_asleep_of : TransmitValue → ℕ → Bool
-is_asleep_of v s = is_some (member v.members s) && (sleeper v.sleepers s).asleep
+-- the group frames and the beacons of BSS b
+abbrev pub group_in : TransmitValue → ℕ → GroupValue
+group_in v b = group_at v.groups b
 
--- whether some live station sleeps
-abbrev pub is_any_asleep_of : TransmitValue → Bool
-is_any_asleep_of v = list_any (is_asleep_of v) (upto v.config.stations)
+-- whether station s is live, sleeps, and is of BSS b
+abbrev pub is_asleep_of : TransmitValue → ℕ → ℕ → Bool
+is_asleep_of v b s =
+    let y : Sleeper = sleeper v.sleepers s in
+    is_some (member v.members s) && (y.asleep && (y.bss == b))
+
+-- whether some live station of BSS b sleeps
+abbrev pub is_any_asleep_of : TransmitValue → ℕ → Bool
+is_any_asleep_of v b = list_any (is_asleep_of v b) (upto v.config.stations)
 
 -- whether the airtime in flight in all classes has reached the setting `aql_total`, which is no limit if it
 -- is 0

@@ -1,7 +1,7 @@
 -- Defines which calls change who is ready, and when all classes but one list a station already.
 use Rattle.std.specs.Prelude.{◌≡◌, ℕ, Bool, true, false, ◌||◌}
 use Rattle.wf_frame.specs.declared.classes.Class.{Class}
-use Rattle.wf_frame.specs.declared.notes.Ask.TheVariants.{Rate, Tick, Arrive, Answer, Rx, Reap, Ampdu, Unsent, GiveUp, Weight, Group}
+use Rattle.wf_frame.specs.declared.notes.Ask.TheVariants.{Rate, Tick, Arrive, Answer, Rx, Reap, Ampdu, Unsent, GiveUp, Weight, Group, Bss}
 use Rattle.wf_frame.specs.declared.notes.Note.{Note}
 use Rattle.wf_frame.specs.declared.notes.Note.TheVariants.{Enqueue, Asked}
 use Rattle.wf_frame.specs.declared.notes.ReplyNote.{ReplyNote}
@@ -18,9 +18,9 @@ loses_in w (Enqueue station tid flow len) s c =
     loses_next_in w s (lower_tid c) || loses_next_in w s (upper_tid c)
 loses_in w (Asked ask) s c = false
 
--- whether the call never changes who is ready: it sets a rate or a weight or states a length of aggregates,
--- moves the clock, reports what arrived or was answered or what the device did with a transmission, charges
--- what a station sent, reaps, or is about group frames
+-- whether the call never changes who is ready: it sets a rate, a weight or a BSS or states a length of
+-- aggregates, moves the clock, reports what arrived or was answered or what the device did with a
+-- transmission, charges what a station sent, reaps, or is about group frames
 abbrev pub leaves_ready : Note → Bool
 leaves_ready (Asked (Rate station rate)) = true
 leaves_ready (Asked (Tick by)) = true
@@ -32,7 +32,8 @@ leaves_ready (Asked (Ampdu station octets)) = true
 leaves_ready (Asked (Unsent exchange index)) = true
 leaves_ready (Asked (GiveUp exchange index)) = true
 leaves_ready (Asked (Weight station weight)) = true
-leaves_ready (Asked (Group ask)) = true
+leaves_ready (Asked (Group g)) = true
+leaves_ready (Asked (Bss station bss)) = true
 leaves_ready _ = false
 
 -- whether the reply of a pull says that its exchange ends a service period, so that its station may be ready

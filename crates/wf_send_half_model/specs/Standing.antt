@@ -8,7 +8,8 @@ use Rattle.wf_frame.specs.declared.notes.ReplyNote.{ReplyNote}
 use Rattle.wf_frame.specs.Frames.{FrameValue}
 use Rattle.wf_frame.specs.Settings.{IsInRange}
 use Rattle.wf_def_lists.specs.Table.{at}
-use Rattle.wf_def_world.specs.World.{World, Station, Mpdu, Content, Frames, Request, Exchange, opening, is_live, station, tid_of, session, accepted_count, inside as inside_of}
+use Rattle.wf_def_world.specs.Group.{bss_count}
+use Rattle.wf_def_world.specs.World.{World, Station, Mpdu, Content, Frames, Request, Exchange, opening, is_live, station, tid_of, session, group_of, accepted_count, inside as inside_of}
 use Rattle.wf_def_world.specs.Step.{step}
 use Rattle.wf_def_world.specs.Run.{Entry, world_after}
 use Rattle.wf_def_world.specs.Text.{tally as tally_of}
@@ -30,7 +31,7 @@ use Rattle.wf_send_parts.specs.Sleepers.{sleeper}
 use Rattle.wf_send_parts.specs.declared.stations.modes.Mode.{Mode}
 use Rattle.wf_send_parts.specs.Modes.{as_mode, mode_of}
 use Rattle.wf_send_parts.specs.Tally.{Counts}
-use Rattle.wf_send_parts.specs.Group.{group_state}
+use Rattle.wf_send_parts.specs.Group.{GroupValue, group_state, group_at}
 use Rattle.wf_send_half_model.specs.Half.{TransmitValue}
 
 -- ---- exchanges
@@ -82,12 +83,13 @@ pub record IsMember (m : Member) (x : Station) : Type 0 where
   pub charged : (c : Class) → charged_in m c ≡ (share_in x c).charged
   pub received : (c : Class) → received_in m c ≡ (share_in x c).received
 
--- what the half keeps of the power save of a station, and of its stop
+-- what the half keeps of the power save of a station, of its stop and of its BSS
 abbrev pub sleeper_of : Station → Sleeper
 sleeper_of x = record {
   asleep = x.asleep;
   credit = x.credit;
   stopped = x.stopped;
+  bss = x.bss;
   delivery = x.delivery;
   most = x.most;
   service = x.service;
@@ -99,7 +101,8 @@ AreBoth R None None = Unit {0}
 AreBoth R (Some x) (Some y) = R x y
 AreBoth R _ _ = ⊥
 
--- the members are the live stations, and the sleepers have the power save of each, and whether it is stopped
+-- the members are the live stations, and the sleepers have the power save of each, whether it is stopped, and
+-- its BSS
 pub record HasStations (members : List (Option Member)) (sleepers : List Sleeper) (w : World) : Type 0 where
   pub sized : (length members ≡ w.config.stations) × (length sleepers ≡ w.config.stations)
   pub live : (s : ℕ) → AreBoth IsMember (member members s) (at None w.stations s)
@@ -109,6 +112,11 @@ pub record HasStations (members : List (Option Member)) (sleepers : List Sleeper
 pub record HasModes (modes : List Mode) (w : World) : Type 0 where
   pub sized : length modes ≡ 8 * w.config.stations
   pub each : (s t : ℕ) → is_live w s ≡ true → t < 8 → as_mode (mode_of modes s t) ≡ (tid_of w s t).mode
+
+-- the group frames and the beacons of each BSS are those of the world
+pub record HasGroups (groups : List GroupValue) (w : World) : Type 0 where
+  pub sized : length groups ≡ bss_count w.config.bsses
+  pub each : (b : ℕ) → group_state (group_at groups b) ≡ group_of w b
 
 -- ---- frames
 
@@ -148,7 +156,7 @@ pub record HasOthers (v : TransmitValue) (w : World) (bodies : ℕ → FrameValu
   pub modes : HasModes v.modes w
   pub inside : v.inside ≡ inside_of w
   pub tally : v.tally ≡ counts_in w
-  pub group : group_state v.group ≡ w.group
+  pub groups : HasGroups v.groups w
   pub frames : HasFrames v.flows.backlog bodies
   pub notes : AreAccepted w bodies
 

@@ -55,14 +55,15 @@ view_of x = record {
   received = λ c. (share_in x c).received;
 }
 
--- the clock, the live stations, the open exchanges without their receivers' state, and the group frames
+-- the clock, the live stations, the open exchanges without their receivers' state, and the group frames and
+-- the beacons by BSS
 pub record Roster : Type 0 where
   pub config : Config
   pub clock : ℕ
   pub exchanges : ℕ
   pub opened : List Open
   pub stations : ℕ → Option StationView
-  pub group : GroupState
+  pub groups : List GroupState
 
 abbrev pub roster : World → Roster
 roster w = record {
@@ -71,7 +72,7 @@ roster w = record {
   exchanges = w.exchanges;
   opened = map open_of w.opened;
   stations = λ s. option_map view_of (at None w.stations s);
-  group = w.group;
+  groups = w.groups;
 }
 
 -- the frames that were accepted, by id

@@ -22,8 +22,8 @@ ghost use Rattle.wf_frame.specs.declared.classes.Fate.{Fate};
 ghost use Rattle.wf_frame.specs.declared.classes.Fate.TheVariants.{Held, Dropped};
 ghost use Rattle.wf_frame.specs.declared.classes.Cause.{Cause};
 ghost use Rattle.wf_frame.specs.declared.classes.Cause.TheVariants.{Flushed, Ended};
-ghost use Rattle.wf_frame.specs.declared.notes.Ask.TheVariants.{Done, Join, Offload, Weight, Leave, Pull, Rate, Tick, Arrive, Answer, Sleep, Wake, Poll, Rx, Reap, Ampdu, Stop, Start, Unsent, GiveUp, Flush, Hold, Begin, Free, Cease, Group, Service};
-ghost use Rattle.wf_frame.specs.declared.notes.GroupAsk.{GroupAsk};
+ghost use Rattle.wf_frame.specs.declared.notes.Ask.TheVariants.{Done, Join, Offload, Weight, Leave, Pull, Rate, Tick, Arrive, Answer, Sleep, Wake, Poll, Rx, Reap, Ampdu, Stop, Start, Unsent, GiveUp, Flush, Hold, Begin, Free, Cease, Group, Service, Bss};
+ghost use Rattle.wf_frame.specs.declared.notes.GroupCall.{GroupCall};
 ghost use Rattle.wf_frame.specs.declared.notes.ServiceAsk.{ServiceAsk};
 ghost use Rattle.wf_frame.specs.declared.notes.Ask.TheVariants as call;
 ghost use Rattle.wf_frame.specs.declared.notes.AskedRate.{AskedRate};
@@ -49,7 +49,7 @@ ghost use Rattle.wf_def_lists.specs.Table.{at, has, upto};
 ghost use Rattle.wf_def_rotation.specs.Rotation.{Rotation, has_key};
 ghost use Rattle.wf_def_agreement.specs.Session.{Session, State, End, after_end, after_flush as session_flushed, slot, start_of, next_number, request_due, with_state, is_acknowledged, is_waiting, is_failed, with_number_given};
 ghost use Rattle.wf_def_world.specs.Rates.{rate_asked};
-ghost use Rattle.wf_def_world.specs.Group.{group_answer};
+ghost use Rattle.wf_def_world.specs.Group.{bss_count, group_answer};
 ghost use Rattle.wf_def_world.specs.Service.{station_served};
 ghost use Rattle.wf_def_world.specs.World.{World, is_any_asleep, Bounds, Station, Tid, Share, Queue, Exchange, Mpdu, frame, accepted_count, is_held, is_offloaded, is_agreed, is_plain, is_held_back, codel_params, with_frame_finished, with_frames_finished, Frames, Request, opening, without_exchange, is_live, station, session, share, rotation, exchange, owed_by_all, pending_air, on_station, on_tid, on_session, on_receiver, on_share, on_queue, with_queues, with_rotation, is_wide};
 ghost use Rattle.wf_def_world.specs.FlowQueues.{frames_queued as world_queued, after_limit, dropped_for_limit as dropped_for_limit_in};
@@ -73,7 +73,7 @@ ghost use Rattle.wf_send_parts.specs.Answers.{settling_answer};
 ghost use Rattle.wf_send_parts.specs.Window.{WindowValue, WindowStandsFor as WindowStandsFor, some_fly, is_flying, IsNumber, HasOwnFrame, state_at, waits, on_air, waiting_from};
 ghost use Rattle.wf_send_parts.specs.Expelling.{frame_left, frames_dropped};
 ghost use Rattle.wf_send_parts.specs.Flushing.{HasFlushed};
-ghost use Rattle.wf_send_parts.specs.Group.{group_state, group_refusal, group_value_after};
+ghost use Rattle.wf_send_parts.specs.Group.{group_state, group_refusal};
 ghost use Rattle.wf_send_parts.specs.Sent.{with_one_sent, with_one_unsent};
 ghost use Rattle.wf_air.specs.Sizes.{AggregateSizeValue, SizeStandsFor as SizeStandsFor, empty_size};
 ghost use Rattle.wf_sched_refines.specs.Calls.{HasPickedInClass};
@@ -86,9 +86,9 @@ ghost use Rattle.wf_send_parts.specs.Sleepers.{sleeper, with_sleeper, woken};
 ghost use Rattle.wf_send_parts.specs.declared.stations.members.Member.{Member};
 ghost use Rattle.wf_send_parts.specs.declared.stations.modes.Mode.{Mode};
 ghost use Rattle.wf_send_parts.specs.declared.stations.modes.Mode.TheVariants.{OnHold, Agreed};
-ghost use Rattle.wf_send_half_model.specs.Half.{TransmitValue, opening_half, some_wait, is_agreed_of, is_plain_of, is_held_back_of, can_give_of, can_send_of, has_live_credit_of, is_ready_of, pending_air_of, is_to_list_of, is_any_asleep_of, is_ahead_of};
+ghost use Rattle.wf_send_half_model.specs.Half.{TransmitValue, opening_half, some_wait, is_agreed_of, is_plain_of, is_held_back_of, can_give_of, can_send_of, has_live_credit_of, is_ready_of, pending_air_of, is_to_list_of, group_in, is_any_asleep_of, is_ahead_of};
 ghost use Rattle.wf_send_half_model.specs.Standing.{open_of, sleeper_of, counts_in, HasWindows, Parts, IsReached, StandsFor, Meets, sending_of, numbers_on_air};
-ghost use Rattle.wf_send_half_model.specs.Changes.{after_listing, after_listing_in, AreReset, AreSet, after_mode, after_change, session_resized, after_enqueue, after_admission, after_service_call, after_weight};
+ghost use Rattle.wf_send_half_model.specs.Changes.{after_listing, after_listing_in, AreReset, AreSet, after_mode, after_change, session_resized, after_enqueue, after_admission, after_service_call, after_group_call, after_weight};
 ghost use Rattle.wf_send_half_model.specs.Counting.{with_overlimit};
 ghost use Rattle.wf_send_half_model.specs.Ending.{after_close, after_finish, after_answer, is_sent_once, IsEnding, state_left};
 ghost use Rattle.wf_send_half_model.specs.Leaving.{after_expelled, after_tid_purged, after_leave, IsLeaving, IsExpelling, IsExpelled};
@@ -155,8 +155,8 @@ pub fn what_a_change_leaves()
 {}
 
 /// A query of a half returns the same as that query of the world: who is live, who can send and is ready,
-/// whether one sleeps, which TIDs have an agreement, which frames are queued or wait, which exchanges are
-/// open, and which of their airtime counts against a station's deficit. The scheduler keeps the deficit less
+/// whether one of a BSS sleeps, which TIDs have an agreement, which frames are queued or wait, which
+/// exchanges are open, and which of their airtime counts against a station's deficit. The scheduler keeps the deficit less
 /// this airtime.
 pub fn the_readers_agree()
     ensures live { (v : TransmitValue) (w : World) (bodies : ℕ → FrameValue) (s : ℕ) → Parts v w bodies →
@@ -237,7 +237,7 @@ pub fn the_readers_agree()
     ensures more { (v : TransmitValue) (w : World) (bodies : ℕ → FrameValue) (s : ℕ) → Parts v w bodies →
         is_live w s ≡ true → (p : Class → Bool) → has_more_in_of v s p ≡ has_more_in w s p }
     ensures any_asleep { (v : TransmitValue) (w : World) (bodies : ℕ → FrameValue) → Parts v w bodies →
-        is_any_asleep_of v ≡ is_any_asleep w }
+        (b : ℕ) → is_any_asleep_of v b ≡ is_any_asleep w b }
 {}
 
 /// A refused call changes nothing, unless it is a pull that finds no ready station.
@@ -304,8 +304,8 @@ pub fn one_class_is_enough()
 
 /// The calls that move no frame, and reap, which takes one off the finished list. If the machine does not
 /// refuse the call, the half with these changes represents the world after the step, and the reply is the
-/// step's. Tick and Reap concern no station. A rate and a stated length of aggregates do not change who
-/// belongs on a list, so they list no station. A receive charge may make its station a debtor in its class.
+/// step's. Tick and Reap concern no station. A rate, a stated length of aggregates and a BSS do not change
+/// who belongs on a list, so they list no station. A receive charge may make its station a debtor in its class.
 pub fn a_call_that_moves_no_frame()
     ensures tick { (v : TransmitValue) (w : World) (bodies : ℕ → FrameValue) → StandsFor v w bodies →
         (by : ℕ) → refusal w (Asked (Tick by)) ≡ None →
@@ -351,6 +351,10 @@ pub fn a_call_that_moves_no_frame()
         (s octets : ℕ) → refusal w (Asked (Ampdu s octets)) ≡ None →
         Meets w bodies (Asked (Ampdu s octets))
         (record v { members = on_member v.members s (with_ampdu octets) }) Set }
+    ensures bss { (v : TransmitValue) (w : World) (bodies : ℕ → FrameValue) → StandsFor v w bodies →
+        (s b : ℕ) → refusal w (Asked (Bss s b)) ≡ None →
+        Meets w bodies (Asked (Bss s b))
+        (record v { sleepers = with_sleeper v.sleepers s (record (sleeper v.sleepers s) { bss = b }) }) Set }
     ensures stop { (v : TransmitValue) (w : World) (bodies : ℕ → FrameValue) → StandsFor v w bodies →
         (s : ℕ) → refusal w (Asked (Stop s)) ≡ None →
         Meets w bodies (Asked (Stop s)) (after_listing
@@ -376,23 +380,24 @@ pub fn a_service_call()
         (reply.Service (service_answer w ask)) }
 {}
 
-/// The calls about group frames. The half refuses them as the machine, if its queue has the room that the
-/// setting `buffered` says. A refused call changes nothing. If the machine does not refuse the call, the half
-/// with these group frames represents the world after the step, and the reply is the step's. The machine does
-/// not know the tag and the destination of a frame that is accepted.
+/// The calls about the group frames of a BSS. If there is that BSS, the half refuses them as the machine, if
+/// the BSS's queue has the room that the setting `buffered` says. A refused call changes nothing. If the
+/// machine does not refuse the call, the half with these group frames represents the world after the step,
+/// and the reply is the step's. The machine does not know the tag and the destination of a frame that is
+/// accepted.
 pub fn a_group_call()
     ensures fault { (v : TransmitValue) (w : World) (bodies : ℕ → FrameValue) → Parts v w bodies →
-        v.group.capacity ≡ v.config.buffered → (ask : GroupAsk) →
-        group_refusal (is_any_asleep_of v) ask v.group ≡ refusal w (Asked (Group ask)) }
+        (g : GroupCall) → g.bss < bss_count v.config.bsses →
+        (group_in v g.bss).capacity ≡ v.config.buffered →
+        group_refusal (is_any_asleep_of v g.bss) g.ask (group_in v g.bss) ≡ refusal w (Asked (Group g)) }
     ensures refused { (v : TransmitValue) (w : World) (bodies : ℕ → FrameValue) → StandsFor v w bodies →
-        (ask : GroupAsk) (r : Refusal) → refusal w (Asked (Group ask)) ≡ Some r →
-        Meets w bodies (Asked (Group ask)) v (Refused r) }
+        (g : GroupCall) (r : Refusal) → refusal w (Asked (Group g)) ≡ Some r →
+        Meets w bodies (Asked (Group g)) v (Refused r) }
     ensures meets { (v : TransmitValue) (w : World) (bodies : ℕ → FrameValue) → StandsFor v w bodies →
-        (ask : GroupAsk) (tag : ℕ) (to : List ℕ) → refusal w (Asked (Group ask)) ≡ None →
-        Meets w bodies (Asked (Group ask)) (record v {
-          group = group_value_after v.config (is_any_asleep_of v) ask tag to v.group;
-        })
-        (reply.Group (group_answer v.config (is_any_asleep_of v) ask (group_state v.group))) }
+        (g : GroupCall) (tag : ℕ) (to : List ℕ) → refusal w (Asked (Group g)) ≡ None →
+        Meets w bodies (Asked (Group g)) (after_group_call v g tag to)
+        (reply.Group (group_answer v.config (is_any_asleep_of v g.bss) g.ask
+        (group_state (group_in v g.bss)))) }
 {}
 
 /// A station joins. In each class it gets its quantum of airtime, and on each TID a new window and a mode: an
@@ -796,7 +801,8 @@ pub fn an_agreement_ends()
     ensures ceased { (before v : TransmitValue) (w : World) (bodies : ℕ → FrameValue) (s t dropped : ℕ) →
         refusal w (Asked (Cease s t)) ≡ None → HasNumbersFlushed Ended before w bodies s t v dropped →
         (x : WindowValue) → WindowsHaveRoom (with_window v.windows s t x) →
-        WindowStandsFor x (session_resized plain_window (session_flushed w.config.attempts (session w s t))) bodies →
+        WindowStandsFor x (session_resized plain_window (session_flushed w.config.attempts (session w s t)))
+        bodies →
         Meets w bodies (Asked (Cease s t)) (after_listing (after_change v s t x OnHold) s)
         (Ceased dropped (released_at_cease w s t)) }
 {}

@@ -1,6 +1,6 @@
 -- Proves the law `a_call_that_moves_no_frame` by the lemmas of Whole and Receipts.
 use Rattle.wf_send_half_model.proofs.Receipts.{rx_meets}
-use Rattle.wf_send_half_model.proofs.Whole.{tick_meets, reap_meets, rate_meets, sleep_meets, wake_meets, poll_meets, ampdu_meets, stop_meets, start_meets}
+use Rattle.wf_send_half_model.proofs.Whole.{tick_meets, reap_meets, rate_meets, sleep_meets, wake_meets, poll_meets, ampdu_meets, stop_meets, start_meets, bss_meets}
 use Rattle.wf_send_half_model.proofs.a_call_that_moves_no_frame.Goals as goal
 
 pub returns-clause-tick : goal.returns-clause-tick
@@ -26,6 +26,9 @@ returns-clause-poll c = poll_meets
 
 pub returns-clause-ampdu : goal.returns-clause-ampdu
 returns-clause-ampdu c = ampdu_meets
+
+pub returns-clause-bss : goal.returns-clause-bss
+returns-clause-bss c = bss_meets
 
 pub returns-clause-stop : goal.returns-clause-stop
 returns-clause-stop c = stop_meets

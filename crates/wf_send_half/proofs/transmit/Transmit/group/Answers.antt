@@ -7,8 +7,8 @@ use Rattle.wf_send_half.proofs.transmit.Transmit.group.Goals as goal
 
 pub invariant_of-self : goal.invariant_of-self
 invariant_of-self c = tracked_still c.self.inside.half c.group.new.self c.self.inside.ready
-    (Group c.args.ask) _ c.self.invariant c.group.ensures.meets tt refl
+    (Group c.args.call) _ c.self.invariant c.group.ensures.meets tt refl
 
 pub returns-clause-unheard : goal.returns-clause-unheard
 returns-clause-unheard c = (tracked_still c.self.inside.half c.group.new.self c.self.inside.ready
-    (Group c.args.ask) _ c.self.invariant c.group.ensures.meets tt refl).some
+    (Group c.args.call) _ c.self.invariant c.group.ensures.meets tt refl).some
