@@ -1,6 +1,6 @@
 -- Proves the clauses of a call without a frame from those of the half: the answer is the half's reply as a
 -- brief, and the path differs from before only in its half.
-use Rattle.std.proofs.Common.{◌≡◌, refl, ap, sym, ◌∙◌, subst, ℕ, Bool, true, false, List}
+use Rattle.std.proofs.Common.{◌≡◌, refl, ap, sym, ◌∙◌, subst, ℕ, true, false, List}
 use Rattle.wf_frame.specs.Answers.{reply_with}
 use Rattle.wf_frame.specs.Frames.{FrameValue}
 use Rattle.wf_frame.specs.declared.answers.Brief.{Brief}
@@ -12,11 +12,11 @@ use Rattle.wf_frame.specs.declared.notes.ReplyNote.{ReplyNote}
 use Rattle.wf_frame.specs.declared.notes.ReplyNote.TheVariants.{Joined, Left, Set, Now, Accepted, Send, Released, Ba, Done, Slept, Woken, Polled, Charged, Reaped, Stopped, Started, Marked, Flushed, Ack, Held, Begun, Freed, Ceased, Group, Service, Refused}
 use Rattle.wf_def_world.specs.World.{World}
 use Rattle.wf_send_half_model.specs.Flushing.{released_at_cease}
-use Rattle.wf_send_half_model.specs.Half.{TransmitValue}
+use Rattle.wf_send_half_model.specs.Half.{TransmitValue, group_in}
 use Rattle.wf_send_half_model.specs.Standing.{StandsFor, Meets}
 use Rattle.wf_path.specs.Addresses.{Addresses}
 use Rattle.wf_path.specs.Group.{FliesAsSaid}
-use Rattle.wf_path.specs.Jobs.{bodies_after, changes_nothing, is_refused, with_released}
+use Rattle.wf_path.specs.Jobs.{bss_asked, bodies_after, changes_nothing, is_refused, with_released}
 use Rattle.wf_path.specs.declared.job.Job.TheVariants.{Call}
 use Rattle.wf_path.specs.Paths.{PathValue, IsPath, RiseLittle, IsAnsweredBriefly}
 use Rattle.wf_send_half.proofs.Kept.{Leaves, same_bodies}
@@ -60,13 +60,14 @@ module _ (x : TransmitValue) (h : IsPath x) (ask : Ask) (reply : ReplyNote) (u :
       ((pairs : List (ℕ × ℕ)) (ids : List ℕ) → reply_with brief pairs ids ≡ reply) →
       ((w : World) (bodies : ℕ → FrameValue) → bodies_after p.half w (Call ask) reply bodies ≡ bodies) →
       ((w : World) → with_released w (Call ask) reply ≡ reply) →
-      (is_refused reply ≡ true → u ≡ x) → FliesAsSaid u.group reply →
+      (is_refused reply ≡ true → u ≡ x) → FliesAsSaid (group_in u (bss_asked (Asked ask))) reply →
       IsAnsweredBriefly p ask (record { half = u; addresses = a }) brief
   answered_briefly a p same brief says sends told stays flight pairs = record {
     meets = λ w bodies ids st _.
         subst (λ (z : ReplyNote). Meets w (bodies_after p.half w (Call ask) z bodies) (Asked ask) u
         (with_released w (Call ask) z))
-        (sym (says pairs ids)) (subst (λ (z : ReplyNote). Meets w (bodies_after p.half w (Call ask) reply bodies)
+        (sym (says pairs ids))
+        (subst (λ (z : ReplyNote). Meets w (bodies_after p.half w (Call ask) reply bodies)
         (Asked ask) u z) (sym (told w)) (subst (λ (z : ℕ → FrameValue). Meets w z (Asked ask) u reply)
         (sym (sends w bodies)) (meets w bodies (subst (λ (z : TransmitValue). StandsFor z w bodies)
         (sym (half_is same)) st))));
@@ -74,7 +75,7 @@ module _ (x : TransmitValue) (h : IsPath x) (ask : Ask) (reply : ReplyNote) (u :
         (stays (ap is_refused (sym (says pairs ids)) ∙ refused_so (reply_with brief pairs ids) is)) ∙ same;
     pending = λ ids on is. ap (λ (z : TransmitValue). with_half a z)
         (stays (ap is_refused (sym (says pairs ids)) ∙ is)) ∙ same;
-    flight = λ ids. subst (FliesAsSaid u.group) (sym (says pairs ids)) flight;
+    flight = λ ids. subst (FliesAsSaid (group_in u (bss_asked (Asked ask)))) (sym (says pairs ids)) flight;
     addresses = addresses_are same;
     path = unheard;
     rises = subst (λ (z : TransmitValue). RiseLittle z u) (half_is same) (rises_by x u h h.bodies
@@ -98,7 +99,7 @@ ceased_briefly x h s t dropped u meets unheard a p same brief is pairs = record 
       sym (ap (λ (b : Brief). changes_nothing (reply_with b pairs ids)) is) ∙ e in cc k);
   pending = λ ids _ e. absurd (let k : false ≡ true =
       sym (ap (λ (b : Brief). is_refused (reply_with b pairs ids)) is) ∙ e in cc k);
-  flight = λ ids. subst (λ (b : Brief). FliesAsSaid u.group (reply_with b pairs ids)) (sym is) tt;
+  flight = λ ids. subst (λ (b : Brief). FliesAsSaid (group_in u 0) (reply_with b pairs ids)) (sym is) tt;
   addresses = addresses_are same;
   path = unheard;
   rises = subst (λ (z : TransmitValue). RiseLittle z u) (half_is same) (rises_by x u h h.bodies

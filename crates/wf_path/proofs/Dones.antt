@@ -100,7 +100,7 @@ told_at w r caller e shown air x =
     is_bad_air u.config air ≡ false → IsInferred u caller e shown air x) (sym r.after)
     (inferred_law w.config r.history caller e shown air x)
 
--- what is believed to be shown went on the air
+-- each number that is believed to be shown went on the air
 pub shows_sent : (x : Exchange) (p : ℕ → Bool) → (not x.batch && is_wholly_unsent x) ≡ false →
     ShowsSent (shown_of_sent x p) x
 shows_sent x p some = record {

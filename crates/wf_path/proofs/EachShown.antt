@@ -159,7 +159,7 @@ shown_believed p out unsent i (m ∷ ms) (outcome ∷ outcomes) same sent h =
     kept true b h = ap not (h refl)
     kept false b h = refl
 
--- the indices of the numbers that are shown are those of the transmissions that were acknowledged
+-- the indices of the numbers that are shown equal those of the acknowledged transmissions
 pub indices_shown : (p : ℕ → Bool) (i : ℕ) (ms : List Mpdu) (outcomes : List Outcome) →
     length outcomes ≡ length ms → AreShownBy p ms outcomes → shown_indices p i ms ≡ indices_acked i outcomes
 indices_shown p i [] [] long h = refl

@@ -174,7 +174,7 @@ module _ (v : TransmitValue) (w : World) (bodies : ℕ → FrameValue) (st : Sta
   abbrev wide : Bool
   wide = is_wide w x.station x.tid
 
-  -- the BlockAck shows what was acknowledged
+  -- the BlockAck shows the acknowledged numbers
   shown_content : (c : Content) → x.content ≡ c →
       AreShownBy (is_shown wide (Some (score_of (sending_of c) outcomes))) (mpdus_of c) outcomes
   shown_content (Request start) is = tt

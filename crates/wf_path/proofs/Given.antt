@@ -33,10 +33,11 @@ module _ (x : TransmitValue) (h : IsPath x) (u : TransmitValue) (a : Addresses) 
         StandsFor x w bodies →
         Meets w (with_body bodies (as_accepted x f)) (enqueue_of f) u (Accepted id dropped)) →
         (w : World) (bodies : ℕ → FrameValue) → StandsFor p.half w bodies → MayCall w job →
-        Meets w (bodies_after p.half w job (Accepted id dropped) bodies) (note_of job) u (Accepted id dropped)
+        Meets w (bodies_after p.half w job (Accepted id dropped) bodies) (note_of job) u
+        (with_released w job (Accepted id dropped))
     accepted_meets id dropped meets w bodies st may =
         subst (λ (j : Job). Meets w (bodies_after p.half w j (Accepted id dropped) bodies) (note_of j) u
-        (Accepted id dropped)) (sym is)
+        (with_released w j (Accepted id dropped))) (sym is)
         (subst (λ (z : TransmitValue). StandsFor z w bodies →
         Meets w (with_body bodies (as_accepted z f)) (enqueue_of f) u (Accepted id dropped)) (half_is same)
         (meets w bodies) st)
@@ -52,9 +53,10 @@ module _ (x : TransmitValue) (h : IsPath x) (u : TransmitValue) (a : Addresses) 
     pub refused_meets : (r : Refusal) → ((w : World) (bodies : ℕ → FrameValue) → StandsFor x w bodies →
         Meets w bodies (enqueue_of f) u (Refused r)) →
         (w : World) (bodies : ℕ → FrameValue) → StandsFor p.half w bodies → MayCall w job →
-        Meets w (bodies_after p.half w job (Refused r) bodies) (note_of job) u (Refused r)
+        Meets w (bodies_after p.half w job (Refused r) bodies) (note_of job) u (with_released w job (Refused r))
     refused_meets r meets w bodies st may =
-        subst (λ (j : Job). Meets w (bodies_after p.half w j (Refused r) bodies) (note_of j) u (Refused r))
+        subst (λ (j : Job). Meets w (bodies_after p.half w j (Refused r) bodies) (note_of j) u
+        (with_released w j (Refused r)))
         (sym is) (meets w bodies (subst (λ (z : TransmitValue). StandsFor z w bodies) (sym (half_is same))
         st))
 

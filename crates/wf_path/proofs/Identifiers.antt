@@ -1,17 +1,17 @@
--- Proves that the association identifiers that are present are those of the stations that sleep and have
--- traffic, by induction over the stations, and that with the identifiers of a new path they are those of a
+-- Proves that the association identifiers that are present belong to the stations that sleep and have
+-- traffic, by induction over the stations, and that with the identifiers of a new path they equal those of a
 -- run.
-use Rattle.std.proofs.Common.{◌≡◌, refl, ap, ap₂, sym, ◌∙◌, arith, ℕ, zero, suc, ◌+◌, ◌-◌, ◌<◌, ◌≤◌, ◌==◌, Bool, true, false, cond, ◌&&◌, ◌||◌, List, [], ◌∷◌, length, map, filter, get_or, get_or-set_other, set, replicate, inl, inr, Option, None}
+use Rattle.std.proofs.Common.{◌≡◌, refl, ap, ap₂, sym, ◌∙◌, arith, ℕ, zero, suc, ◌+◌, ◌-◌, ◌<◌, ◌≤◌, ◌==◌, Bool, true, false, cond, ◌&&◌, ◌||◌, List, [], ◌∷◌, map, filter, get_or, get_or-set_other, set, replicate, inl, inr, Option, Some, None, is_some, unwrap_or}
 use Rattle.std.specs.List.{range_with_len, list_any}
-use Rattle.wf_def_lists.specs.Table.{count_from, upto}
+use Rattle.wf_def_lists.specs.Table.{at, count_from, upto}
 use Rattle.std.proofs.lemmas.Bool.{cases_Bool, cases_eq, cases_lt, eq-eqb, ne_eqb, or_right, and_left, and_right}
 use Rattle.std.proofs.lemmas.Grind.{get_or-set_at}
 use Rattle.std.proofs.lemmas.List.{get_or-replicate, length-replicate, length-set}
 use Rattle.wf_frame.specs.declared.settings.Config.{Config}
 use Rattle.wf_frame.specs.Frames.{FrameValue}
-use Rattle.wf_def_world.specs.World.{World, station, is_live}
+use Rattle.wf_def_world.specs.World.{World, Station, no_station, station, is_live}
 use Rattle.wf_def_world.specs.Exchanges.{has_more}
-use Rattle.wf_def_world.specs.Text.{with_traffic}
+use Rattle.wf_def_world.specs.Text.{is_awaited, with_traffic}
 use Rattle.wf_octets.specs.Tim.{aids_of}
 use Rattle.wf_send_parts.specs.Sleepers.{sleeper}
 use Rattle.wf_send_parts.specs.declared.stations.sleepers.Sleeper.{Sleeper}
@@ -20,8 +20,8 @@ use Rattle.wf_send_half_model.specs.Pulling.{has_more_of}
 use Rattle.wf_send_half_model.specs.Standing.{StandsFor}
 use Rattle.wf_send_half_model.proofs.Readers.{live_same}
 use Rattle.wf_send_half_model.proofs.Pulls.{more_same}
-use Rattle.wf_path.specs.Addresses.{Addresses, is_of, aid_in, IsAid, made_up_aids}
-use Rattle.wf_path.specs.Traffic.{has_traffic_of, has_traffic, is_aid_shown, aids_shown, identifiers, ArePresent}
+use Rattle.wf_path.specs.Addresses.{Addresses, aid_in, IsAid, made_up_aids}
+use Rattle.wf_path.specs.Traffic.{has_traffic_of, has_traffic, bss_of, is_awaited_of, is_awaited_in, is_aid_shown, aids_shown, identifiers, ArePresent}
 use Rattle.wf_path.proofs.MadeUp.{made_up_aid}
 
 -- ---- tests of a list of numbers
@@ -200,6 +200,11 @@ filter_both p q both is (x ∷ xs) = either (p x) refl (filter_both p q both is 
     either false e rest = rest ∙ ap (λ b. cond b (x ∷ filter both xs) (filter both xs))
         (sym (is x ∙ ap (λ b. b && q x) e))
 
+-- the BSS of a station that is not live is 0
+no_bss : (o : Option Station) → is_some o ≡ false → (unwrap_or o no_station).bss ≡ 0
+no_bss None off = refl
+no_bss (Some x) off = absurd (cc off)
+
 module _ (v : TransmitValue) (w : World) (bodies : ℕ → FrameValue) (h : StandsFor v w bodies) where
   traffic_same : (s : ℕ) → has_traffic_of v s ≡ has_traffic w s
   traffic_same s = elim (cases_Bool (is_live w s)) [
@@ -215,25 +220,34 @@ module _ (v : TransmitValue) (w : World) (bodies : ℕ → FrameValue) (h : Stan
   stations_are : v.config.stations ≡ w.config.stations
   stations_are = ap (λ (k : Config). k.stations) h.parts.others.config
 
+  bss_same : (s : ℕ) → bss_of v s ≡ (station w s).bss
+  bss_same s = elim (cases_Bool (is_live w s)) [
+    | inl live ↦ ap (λ b. cond b (sleeper v.sleepers s).bss 0) (live_same v w bodies s h.parts ∙ live)
+        ∙ ap (λ (y : Sleeper). y.bss) (h.parts.others.stations.rests s live)
+    | inr off ↦ ap (λ b. cond b (sleeper v.sleepers s).bss 0) (live_same v w bodies s h.parts ∙ off)
+        ∙ sym (no_bss (at None w.stations s) off)
+  ]
+
+  awaited_same : (b s : ℕ) → is_awaited_of v b s ≡ is_awaited_in w b s
+  awaited_same b s = ap₂ (λ x n. x && (n == b)) (traffic_same s) (bss_same s)
+
   -- the identifiers that are present are those that the element of the world shows
-  pub shown_are : (present : List Bool) (a : Addresses) (bss : Option (List ℕ)) →
-      ArePresent present a (λ s. has_traffic_of v s && is_of a bss s) v.config.stations →
-      aids_of present ≡ aids_shown a bss w
-  shown_are present a bss are =
-      present_are present a (λ s. has_traffic_of v s && is_of a bss s) v.config.stations are
-      ∙ ap (λ n. filter (is_aid_shown a (λ s. has_traffic_of v s && is_of a bss s) n)
-      (range_with_len 0 identifiers)) stations_are
-      ∙ filters_same (is_aid_shown a (λ s. has_traffic_of v s && is_of a bss s) w.config.stations)
-      (is_aid_shown a (λ s. has_traffic w s && is_of a bss s) w.config.stations) 0 identifiers
-      (λ k low. any_same (λ s. (has_traffic_of v s && is_of a bss s) && aid_in a s == k)
-      (λ s. (has_traffic w s && is_of a bss s) && aid_in a s == k)
-      (λ s. ap (λ b. (b && is_of a bss s) && aid_in a s == k) (traffic_same s))
+  pub shown_are : (present : List Bool) (a : Addresses) (b : ℕ) →
+      ArePresent present a (is_awaited_of v b) v.config.stations → aids_of present ≡ aids_shown a b w
+  shown_are present a b are =
+      present_are present a (is_awaited_of v b) v.config.stations are
+      ∙ ap (λ n. filter (is_aid_shown a (is_awaited_of v b) n) (range_with_len 0 identifiers)) stations_are
+      ∙ filters_same (is_aid_shown a (is_awaited_of v b) w.config.stations)
+      (is_aid_shown a (is_awaited_in w b) w.config.stations) 0 identifiers
+      (λ k low. any_same (λ s. is_awaited_of v b s && aid_in a s == k)
+      (λ s. is_awaited_in w b s && aid_in a s == k)
+      (λ s. ap (λ t. t && aid_in a s == k) (awaited_same b s))
       (range_with_len 0 w.config.stations))
 
 -- ---- the identifiers of a new path
 
 module _ (a : Addresses) (made : a.aids ≡ made_up_aids) (shown : ℕ → Bool) (n : ℕ) where
-  -- number k + 1 is that of station k alone
+  -- number k + 1 belongs to station k alone
   within : (s : ℕ) → s < n → is_aid_shown a shown n (s + 1) ≡ shown s
   within s low =
       any_one (λ i. shown i && aid_in a i == s + 1) s 0 n (omega arith) (omega (arith, low))
@@ -260,17 +274,26 @@ module _ (a : Addresses) (made : a.aids ≡ made_up_aids) (shown : ℕ → Bool)
       (aid_in a i == 0) (ne_eqb (aid_in a i) 0 (λ e. absurd (omega (arith, e, made_up_aid a made i)))))
 
   shown_alone : n ≤ 256 →
-      filter (is_aid_shown a shown n) (range_with_len 0 identifiers) ≡ map (λ s. s + 1) (filter shown (upto n))
-  shown_alone few = from_none (is_aid_shown a shown n) shown n within past identifiers (omega (arith, few)) none
+      filter (is_aid_shown a shown n) (range_with_len 0 identifiers)
+      ≡ map (λ s. s + 1) (filter shown (upto n))
+  shown_alone few = from_none (is_aid_shown a shown n) shown n within past identifiers (omega (arith, few))
+      none
 
 -- with them the element shows those of a run
-pub made_up_shown : (w : World) (a : Addresses) → a.aids ≡ made_up_aids → w.config.stations ≤ 256 →
-    aids_shown a None w ≡ with_traffic w
-made_up_shown w a made few =
-    shown_alone a made (λ s. has_traffic w s && true) w.config.stations few
-    ∙ sym (ap (map (λ s. s + 1)) (filter_both (is_live w) (λ s. (station w s).asleep && has_more w s)
-    (λ s. has_traffic w s && true) (λ s. and_all (has_traffic w s)) (upto w.config.stations)))
+pub made_up_shown : (w : World) (a : Addresses) → a.aids ≡ made_up_aids → w.config.stations ≤ 256 → (b : ℕ) →
+    aids_shown a b w ≡ with_traffic w b
+made_up_shown w a made few b =
+    shown_alone a made (is_awaited_in w b) w.config.stations few
+    ∙ sym (ap (map (λ s. s + 1)) (filter_both (is_live w) (is_awaited w b) (is_awaited_in w b)
+    (λ s. moved (is_live w s) (station w s).asleep (has_more w s) ((station w s).bss == b))
+    (upto w.config.stations)))
   where
-    and_all : (b : Bool) → (b && true) ≡ b
-    and_all true = refl
-    and_all false = refl
+    -- the test of the BSS goes before that of the traffic
+    moved : (live asleep more own : Bool) →
+        ((live && (asleep && more)) && own) ≡ (live && (asleep && (own && more)))
+    moved false asleep more own = refl
+    moved true false more own = refl
+    moved true true true true = refl
+    moved true true true false = refl
+    moved true true false true = refl
+    moved true true false false = refl

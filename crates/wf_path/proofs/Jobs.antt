@@ -14,7 +14,7 @@ use Rattle.wf_send_half_model.specs.Half.{TransmitValue}
 use Rattle.wf_send_half_model.specs.Standing.{StandsFor, Meets}
 use Rattle.wf_path.specs.Jobs.{as_ask, job_of, note_of, MayCall, bodies_after, frame_given_back, with_released}
 use Rattle.wf_path.specs.declared.asks.PathAsk.{PathAsk}
-use Rattle.wf_path.specs.declared.asks.PathAsk.TheVariants.{Join, Leave, Rate, Tick, Sleep, Wake, Poll, Rx, Ampdu, Stop, Start, Unsent, GiveUp, Flush, Offload, Weight, Plain, Hold, Begin, Free, Cease, Group, Service}
+use Rattle.wf_path.specs.declared.asks.PathAsk.TheVariants.{Join, Leave, Rate, Tick, Sleep, Wake, Poll, Rx, Ampdu, Stop, Start, Unsent, GiveUp, Flush, Offload, Weight, Plain, Hold, Begin, Free, Cease, Group, Service, Bss}
 use Rattle.wf_path.specs.declared.asks.PathJob.{PathJob}
 use Rattle.wf_path.specs.declared.asks.PathJob.TheVariants as path
 use Rattle.wf_path.specs.declared.job.Job.{Job}
@@ -47,6 +47,7 @@ none_for bodies (Free s t) reply = refl
 none_for bodies (Cease s t) reply = refl
 none_for bodies (Group ask) reply = refl
 none_for bodies (Service ask) reply = refl
+none_for bodies (Bss s b) reply = refl
 
 pub none_back : (bodies : ℕ → FrameValue) (job : PathJob) (ask : PathAsk) → job ≡ path.Call ask →
     (reply : ReplyNote) → ◌≡◌ {A = Option FrameValue} None (frame_given_back bodies (job_of job) reply)
@@ -93,6 +94,7 @@ silent_ask (Free s t) = tt
 silent_ask (Cease s t) = tt
 silent_ask (Group ask) = tt
 silent_ask (Service ask) = tt
+silent_ask (Bss s b) = tt
 
 silent_job : (job : PathJob) → IsSilent (note_of (job_of job))
 silent_job (path.Give f) = tt

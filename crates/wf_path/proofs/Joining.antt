@@ -1,7 +1,7 @@
 -- Proves that a station that is live only since a call has joined by this call, so its airtimes begin at 0.
 -- By cases of the call.
 use Rattle.std.proofs.Common.{◌≡◌, refl, ap, sym, ◌∙◌, ℕ, ◌==◌, ◌&&◌, Bool, true, false, if◌then◌else◌, List, [], ◌∷◌, Option, Some, None, is_none, IfSome}
-use Rattle.wf_frame.specs.declared.notes.Ask.TheVariants.{Join, Leave, Rate, Tick, Pull, Arrive, Answer, Done, Sleep, Wake, Poll, Rx, Reap, Ampdu, Stop, Start, Unsent, GiveUp, Flush, Offload, Weight, Plain, Hold, Begin, Free, Cease, Group, Service}
+use Rattle.wf_frame.specs.declared.notes.Ask.TheVariants.{Join, Leave, Rate, Tick, Pull, Arrive, Answer, Done, Sleep, Wake, Poll, Rx, Reap, Ampdu, Stop, Start, Unsent, GiveUp, Flush, Offload, Weight, Plain, Hold, Begin, Free, Cease, Group, Service, Bss}
 use Rattle.wf_frame.specs.declared.notes.Note.{Note}
 use Rattle.wf_frame.specs.declared.notes.Note.TheVariants.{Enqueue, Asked}
 use Rattle.wf_frame.specs.declared.notes.Refusal.{Refusal}
@@ -132,6 +132,7 @@ were_done (Asked (Cease s t)) w i = λ j other live. sym (live_ceased w s t j) �
 were_done (Asked (Group ask)) w i = λ s other live. live
 were_done (Asked (Service ask)) w i =
     were_same (Asked (Service ask)) w _ (same_on_station w (station_served ask) _ (λ x t. refl))
+were_done (Asked (Bss s b)) w i = were_same (Asked (Bss s b)) w _ (same_on_station w s _ (λ x t. refl))
 
 -- ---- the step
 
@@ -184,6 +185,7 @@ begun (Asked (Free i t)) w s n fine own = absurd (cc own)
 begun (Asked (Cease i t)) w s n fine own = absurd (cc own)
 begun (Asked (Group ask)) w s n fine own = absurd (cc own)
 begun (Asked (Service ask)) w s n fine own = absurd (cc own)
+begun (Asked (Bss i b)) w s n fine own = absurd (cc own)
 
 new_answer : (r : Option Refusal) (w : World) (note : Note) (s n : ℕ) → refusal w note ≡ r → IsLawful w →
     is_live w s ≡ false → is_live (judged_outcome w note r).world s ≡ true → since_join w s note n ≡ 0

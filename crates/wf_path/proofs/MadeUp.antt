@@ -13,8 +13,8 @@ use Rattle.wf_octets.specs.declared.block.frames.Bar.{Bar}
 use Rattle.wf_octets.specs.Addresses.{base, address_of_station}
 use Rattle.wf_octets.specs.HeaderLayout.{header_as_octets}
 use Rattle.wf_octets.specs.declared.header.header.Header.{Header}
-use Rattle.wf_def_world.specs.World.{World, Exchange, Mpdu, Content, Frames, Request, exchange}
-use Rattle.wf_path.specs.Addresses.{Addresses, made_up, made_up_aids, address_in, bss_in, aid_in, aid_of_station, station_numbers}
+use Rattle.wf_def_world.specs.World.{World, Exchange, Mpdu, Content, Frames, Request, station, exchange}
+use Rattle.wf_path.specs.Addresses.{Addresses, made_up, made_up_aids, address_in, bss_in, aid_in, aid_of_station, station_numbers, bss_numbers}
 use Rattle.wf_path.specs.Transmissions.{header_of, data_octets, bar_of, octets_of_content, frames_on_air, transmission_octets, octets_sent}
 use Rattle.wf_path.specs.Writing.{room_fault, write_fault}
 use Rattle.wf_path.specs.declared.faults.PathFault.TheVariants.{NoExchange}
@@ -29,18 +29,18 @@ made_up_address s = elim (cases_lt s station_numbers) [
       (omega (arith, past, length-map-range_with_len address_of_station 0 station_numbers))
 ]
 
--- no station of the placeholder addresses has an address of its BSS
-pub made_up_bss : (s : ℕ) → bss_in made_up s ≡ base
+-- each BSS of the placeholder addresses has the access point's address
+pub made_up_bss : (b : ℕ) → bss_in made_up b ≡ base
 unfolding made_up
-made_up_bss s = elim (cases_lt s station_numbers) [
+made_up_bss b = elim (cases_lt b bss_numbers) [
   | inl low ↦ ap (λ (o : Option (List ℕ)). unwrap_or o base)
-      (get_or-replicate station_numbers s None None low)
+      (get_or-replicate bss_numbers b None None low)
   | inr past ↦ ap (λ (o : Option (List ℕ)). unwrap_or o base)
-      (get_or_past (replicate station_numbers None) s None
-      (omega (arith, past, length-replicate {A = Option (List ℕ)} station_numbers None)))
+      (get_or_past (replicate bss_numbers None) b None
+      (omega (arith, past, length-replicate {A = Option (List ℕ)} bss_numbers None)))
 ]
 
--- the identifiers of the placeholder addresses are those of a new path
+-- the identifiers of the placeholder addresses equal those of a new path
 pub made_up_has_aids : made_up.aids ≡ made_up_aids
 unfolding made_up
 made_up_has_aids = refl
@@ -65,7 +65,7 @@ module _ (w : World) (bodies : ℕ → FrameValue) where
   header_plain x m = ap₂ (λ (ra ta : List ℕ). let h : Header = record (header_of plain w bodies x m) {
     a1 = ra;
     a2 = ta;
-  } in h) (made_up_address x.station) (made_up_bss x.station)
+  } in h) (made_up_address x.station) (made_up_bss (station w x.station).bss)
 
   all_plain : (x : Exchange) (ms : List Mpdu) →
       map (data_octets made_up w bodies x) ms ≡ map (data_octets plain w bodies x) ms
@@ -73,11 +73,11 @@ module _ (w : World) (bodies : ℕ → FrameValue) where
   all_plain x (m ∷ ms) = ap₂ (λ (o : List ℕ) (os : List (List ℕ)). o ∷ os)
       (ap (λ (h : Header). header_as_octets h ++ (bodies m.id).body) (header_plain x m)) (all_plain x ms)
 
-  bar_plain : (x : Exchange) (start : ℕ) → bar_of made_up x start ≡ bar_of plain x start
-  bar_plain x start = ap₂ (λ (ra ta : List ℕ). let b : Bar = record (bar_of plain x start) {
+  bar_plain : (x : Exchange) (start : ℕ) → bar_of made_up w x start ≡ bar_of plain w x start
+  bar_plain x start = ap₂ (λ (ra ta : List ℕ). let b : Bar = record (bar_of plain w x start) {
     ra = ra;
     ta = ta;
-  } in b) (made_up_address x.station) (made_up_bss x.station)
+  } in b) (made_up_address x.station) (made_up_bss (station w x.station).bss)
 
   content_plain : (x : Exchange) (c : Content) →
       octets_of_content made_up w bodies x c ≡ octets_of_content plain w bodies x c

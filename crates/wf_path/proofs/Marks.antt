@@ -29,7 +29,7 @@ use Rattle.wf_law_driver.specs.Unheard.{IsUnmarked, IsUnheard}
 use Rattle.wf_law_driver.proofs.Opened.{found_replaced, found_number, found_each, none_refuses, step_done}
 use Rattle.wf_send_half.specs.Marks.{HasNotArrived, bodies_unsent}
 use Rattle.wf_send_half.proofs.Kept.{silent_at}
-use Rattle.wf_send_half_model.specs.Half.{TransmitValue}
+use Rattle.wf_send_half_model.specs.Half.{TransmitValue, group_in}
 use Rattle.wf_send_half_model.specs.Marking.{with_transmission_unsent}
 use Rattle.wf_send_half_model.specs.Standing.{IsReached, StandsFor, Meets}
 use Rattle.wf_send_half_model.proofs.Reached.{reached_step, step_done as whole_step}
@@ -67,7 +67,7 @@ module _ (x : TransmitValue) (h : IsPath x) (e i : ℕ) (reply : ReplyNote) (u :
   pub unsent_briefly : (a : Addresses) (p : PathValue) →
       ◌≡◌ {A = PathValue} (record { half = x; addresses = a }) p → (brief : Brief) →
       ((pairs : List (ℕ × ℕ)) (ids : List ℕ) → reply_with brief pairs ids ≡ reply) →
-      (is_refused reply ≡ true → u ≡ x) → FliesAsSaid u.group reply →
+      (is_refused reply ≡ true → u ≡ x) → FliesAsSaid (group_in u 0) reply →
       IsAnsweredBriefly p (machine.Unsent e i) (record { half = u; addresses = a }) brief
   unsent_briefly a p same brief says stays flight pairs = record {
     meets = λ w bodies ids st told.
@@ -78,7 +78,7 @@ module _ (x : TransmitValue) (h : IsPath x) (e i : ℕ) (reply : ReplyNote) (u :
         (stays (ap is_refused (sym (says pairs ids)) ∙ refused_so (reply_with brief pairs ids) is)) ∙ same;
     pending = λ ids on is. ap (λ (z : TransmitValue). with_half a z)
         (stays (ap is_refused (sym (says pairs ids)) ∙ is)) ∙ same;
-    flight = λ ids. subst (FliesAsSaid u.group) (sym (says pairs ids)) flight;
+    flight = λ ids. subst (FliesAsSaid (group_in u 0)) (sym (says pairs ids)) flight;
     addresses = addresses_are same;
     path = unheard;
     rises = subst (λ (z : TransmitValue). RiseLittle z u) (half_is same) (rises_by x u h
@@ -107,11 +107,11 @@ then_counts w u o h k = record {
   exchanges = k.exchanges ∙ h.exchanges;
   accepted = k.accepted ∙ h.accepted;
   stations = k.stations ∙ h.stations;
-  group = k.group ∙ h.group;
+  groups = k.groups ∙ h.groups;
 }
 
 same_counts : (w : World) → KeepsCounts w w
-same_counts w = record { clock = refl; exchanges = refl; accepted = refl; stations = refl; group = refl }
+same_counts w = record { clock = refl; exchanges = refl; accepted = refl; stations = refl; groups = refl }
 
 either_counts : (b : Bool) (w u o : World) → KeepsCounts w u → KeepsCounts w o →
     KeepsCounts w (if b then u else o)
@@ -120,7 +120,13 @@ either_counts false w u o h k = k
 
 rotated_counts : (w : World) (c : Class) (r : Rotation) → KeepsCounts w (with_rotation w c r)
 unfolding with_rotation
-rotated_counts w c r = record { clock = refl; exchanges = refl; accepted = refl; stations = refl; group = refl }
+rotated_counts w c r = record {
+  clock = refl;
+  exchanges = refl;
+  accepted = refl;
+  stations = refl;
+  groups = refl;
+}
 
 listed_counts : (cs : List Class) (w : World) (s : ℕ) → KeepsCounts w (with_listings_in w s cs)
 unfolding with_listings_in with_listing_in
@@ -132,7 +138,7 @@ replaced_counts : (w : World) (z : Exchange) (s : ℕ) →
     KeepsCounts w (with_listings_of (with_exchange w z) (Some s))
 unfolding with_listings_of with_exchange
 replaced_counts w z s = then_counts w (with_exchange w z) _
-    (record { clock = refl; exchanges = refl; accepted = refl; stations = refl; group = refl })
+    (record { clock = refl; exchanges = refl; accepted = refl; stations = refl; groups = refl })
     (listed_counts all_classes (with_exchange w z) s)
 
 -- ---- marks that are taken

@@ -1,6 +1,6 @@
 -- Proves that an open exchange of the half agrees with the world's: its station and TID are in range, and its
 -- answer, its summary and its marks agree, and whether it is a batch or plain.
-use Rattle.std.proofs.Common.{◌≡◌, refl, ap, sym, ◌∙◌, subst, arith, ℕ, ◌<◌, ◌==◌, Bool, true, false, List, Option, Some, None, option_map}
+use Rattle.std.proofs.Common.{◌≡◌, refl, ap, ap₂, sym, ◌∙◌, subst, arith, ℕ, ◌<◌, ◌==◌, Bool, true, false, List, Option, Some, None, option_map}
 use Rattle.std.specs.Prelude.{find}
 use Rattle.std.specs.Option.{option_map_or}
 use Rattle.std.proofs.lemmas.List.{length-map}
@@ -8,7 +8,7 @@ use Rattle.wf_frame.specs.declared.settings.Config.{Config}
 use Rattle.wf_frame.specs.Frames.{FrameValue}
 use Rattle.wf_def_lists.specs.Table.{has}
 use Rattle.wf_def_world.specs.Refusals.{exchange_has}
-use Rattle.wf_def_world.specs.World.{World, Exchange, Content, Frames, Request, is_live, exchange, is_wide}
+use Rattle.wf_def_world.specs.World.{World, Exchange, Content, Frames, Request, station, is_live, exchange, is_wide}
 use Rattle.wf_def_world.specs.CanSend.{is_request}
 use Rattle.wf_def_world.specs.Exchanges.{transmissions}
 use Rattle.wf_law_runs.specs.Delivery.{is_batch}
@@ -56,23 +56,26 @@ module _ (v : TransmitValue) (w : World) (bodies : ℕ → FrameValue) (h : Stan
     (octets : List ℕ) (a : Addresses) where
   pub none_answered : None ≡ find (λ x. x.number == e) v.opened → Some NoExchange ≡ read_fault a w e octets
   none_answered is = sym (ap (λ o. option_map_or
-      (λ x. answer_fault a (is_wide w x.station x.tid) x.station x.tid octets) o (Some NoExchange))
+      (λ x. answer_fault a (is_wide w x.station x.tid) x.station (station w x.station).bss x.tid octets) o
+      (Some NoExchange))
       (none_open v w bodies h e is))
 
-  pub some_answered : (o : Open) (wide : Bool) → Some o ≡ find (λ x. x.number == e) v.opened →
-      wide ≡ is_wide_of v o.station o.tid → answer_fault a wide o.station o.tid octets ≡ read_fault a w e
-      octets
-  some_answered o wide is told =
+  -- `wide` and `bss` belong to its station
+  pub some_answered : (o : Open) (wide : Bool) (bss : ℕ) → Some o ≡ find (λ x. x.number == e) v.opened →
+      wide ≡ is_wide_of v o.station o.tid → bss ≡ (station w o.station).bss →
+      answer_fault a wide o.station bss o.tid octets ≡ read_fault a w e octets
+  some_answered o wide bss is told whose =
       let k : IsKnown w e o = known_of v w bodies h e o is in
       let x : Exchange = k.exchange_is in
       let same : is_wide_of v x.station x.tid ≡ is_wide w x.station x.tid =
       wide_same v w bodies x.station x.tid h.parts (live v w bodies h e x k.known)
       (low_tid v w bodies h e x k.known) in
-      ap (λ b. answer_fault a b o.station o.tid octets) told
-      ∙ ap (λ (z : Open). answer_fault a (is_wide_of v z.station z.tid) z.station z.tid octets) k.same
-      ∙ ap (λ b. answer_fault a b x.station x.tid octets) same
-      ∙ sym (ap (λ o. option_map_or (λ y. answer_fault a (is_wide w y.station y.tid) y.station y.tid octets) o
-      (Some NoExchange)) k.known)
+      ap₂ (λ b c. answer_fault a b o.station c o.tid octets) told whose
+      ∙ ap (λ (z : Open). answer_fault a (is_wide_of v z.station z.tid) z.station (station w z.station).bss
+      z.tid octets) k.same
+      ∙ ap (λ b. answer_fault a b x.station (station w x.station).bss x.tid octets) same
+      ∙ sym (ap (λ o. option_map_or (λ y. answer_fault a (is_wide w y.station y.tid) y.station
+      (station w y.station).bss y.tid octets) o (Some NoExchange)) k.known)
 
 -- ---- its summary
 
@@ -134,7 +137,8 @@ module _ (v : TransmitValue) (w : World) (bodies : ℕ → FrameValue) (h : Stan
 
   pub none_plain : None ≡ find (λ x. x.number == e) v.opened →
       false ≡ exchange_has (exchange w e) (λ x. x.plain)
-  none_plain is = sym (ap (λ (f : Option Exchange). exchange_has f (λ x. x.plain)) (none_open v w bodies h e is))
+  none_plain is = sym (ap (λ (f : Option Exchange). exchange_has f (λ x. x.plain))
+      (none_open v w bodies h e is))
 
   pub some_plain : (o : Open) → Some o ≡ find (λ x. x.number == e) v.opened →
       o.plain ≡ exchange_has (exchange w e) (λ x. x.plain)

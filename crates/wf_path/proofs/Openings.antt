@@ -28,9 +28,9 @@ new_below v config stands n some =
       accepted = omega (arith, ap (λ (x : Counts). x.accepted) others.tally, some);
       charged = λ s c. none_large (λ m. charged_in m c < n) (member v.members s) (others.stations.live s);
       received = λ s c. none_large (λ m. received_in m c < n) (member v.members s) (others.stations.live s);
-      group = record {
-        accepted = omega (arith, ap (λ (g : GroupState). g.accepted) others.group, some);
-        number = omega (arith, ap (λ (g : GroupState). g.number) others.group, some);
-        sent = omega (arith, ap (λ (g : GroupState). g.sent) others.group, some);
+      group = λ b. record {
+        accepted = omega (arith, ap (λ (g : GroupState). g.accepted) (others.groups.each b), some);
+        number = omega (arith, ap (λ (g : GroupState). g.number) (others.groups.each b), some);
+        sent = omega (arith, ap (λ (g : GroupState). g.sent) (others.groups.each b), some);
       };
     }

@@ -18,7 +18,7 @@ use Rattle.wf_frame.specs.declared.settings.Config.{Config}
 use Rattle.wf_def_world.specs.World.{World}
 use Rattle.wf_def_world.specs.Refusals.{refusal, first_refusal, open_of_class, is_at_aql_total}
 use Rattle.wf_def_world.specs.Step.{step}
-use Rattle.wf_send_half_model.specs.Half.{TransmitValue, is_ahead_of}
+use Rattle.wf_send_half_model.specs.Half.{TransmitValue, is_ahead_of, group_in}
 use Rattle.wf_send_half_model.specs.Standing.{StandsFor, Meets}
 use Rattle.wf_send_half_model.proofs.Readers.{class_count_same, ahead_same}
 use Rattle.wf_send_parts.specs.Group.{GroupValue}
@@ -225,8 +225,9 @@ module _ (x : TransmitValue) (h : IsPath x) (c : Class) (l : Limits) (b : Brief)
         (kept_if_refused x u h.world h.bodies _ c l b pairs ids h.stands
         (pull_met h.world h.bodies c l u b pairs ids met) full ahead
         (idle (ap (λ (z : TransmitValue). z.config.pending) (half_is same) ∙ on)) is) ∙ same;
-    flight = λ ids. subst (FliesAsSaid u.group) (sym (pull_met h.world h.bodies c l u b pairs ids met).reply)
-        (no_group u.group h.world c l);
+    flight = λ ids. subst (FliesAsSaid (group_in u 0))
+        (sym (pull_met h.world h.bodies c l u b pairs ids met).reply)
+        (no_group (group_in u 0) h.world c l);
     addresses = addresses_are same;
     path = unheard;
     rises = subst (λ (z : TransmitValue). RiseLittle z u) (half_is same) (rises_by x u h

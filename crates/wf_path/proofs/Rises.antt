@@ -16,8 +16,8 @@ use Rattle.wf_def_lists.specs.Bounds.{greatest_tick, greatest_air}
 use Rattle.wf_frame.specs.declared.notes.GroupAsk.{GroupAsk}
 use Rattle.wf_frame.specs.declared.notes.GroupAsk.TheVariants as group
 use Rattle.wf_def_lists.specs.Table.{at}
-use Rattle.wf_def_world.specs.Group.{GroupState, group_after}
-use Rattle.wf_def_world.specs.World.{World, Station, Exchange, no_station, accepted_count, exchange, share, is_live, opening}
+use Rattle.wf_def_world.specs.Group.{GroupState, no_group, group_after}
+use Rattle.wf_def_world.specs.World.{World, Station, Exchange, no_station, accepted_count, exchange, share, is_live, group_of, opening}
 use Rattle.wf_def_world.specs.Refusals.{refusal, refusals}
 use Rattle.wf_def_world.specs.Run.{Entry, by, world_after}
 use Rattle.wf_def_world.specs.Step.{step}
@@ -154,11 +154,13 @@ one_call_more group.Pull config g =
 one_call_more group.Done config g =
     record { accepted = omega arith; number = omega arith; sent = omega arith }
 
-pub one_step_more : (w : World) (note : Note) → HasOneMore w.group (step w note).world.group
-one_step_more w note = elim (group_step note w) [
-  | inl quiet ↦ subst (HasOneMore w.group) (sym quiet.same)
+pub one_step_more : (w : World) (note : Note) (b : ℕ) →
+    HasOneMore (group_of w b) (group_of (step w note).world b)
+one_step_more w note b = elim (group_step note w b) [
+  | inl quiet ↦ subst (HasOneMore (group_of w b)) (sym quiet.same)
       (record { accepted = omega arith; number = omega arith; sent = omega arith })
-  | inr called ↦ subst (HasOneMore w.group) (sym called.1.after) (one_call_more called.0 w.config w.group)
+  | inr called ↦ subst (HasOneMore (group_of w b)) (sym called.1.after)
+      (one_call_more called.0 w.config (group_of w b))
 ]
 
 -- ---- the counts of a world
@@ -170,7 +172,7 @@ record AreBelow (n : ℕ) (w : World) : Type 0 where
   accepted : accepted_count w < n
   charged : (s : ℕ) (c : Class) → is_live w s ≡ true → (share w s c).charged < n
   received : (s : ℕ) (c : Class) → is_live w s ≡ true → (share w s c).received < n
-  group : GroupIsBelow n w.group
+  group : (b : ℕ) → GroupIsBelow n (group_of w b)
 
 module _ (config : Config) (h : List Entry) (note : Note) (range : IsInRange config) where
   abbrev w : World
@@ -231,11 +233,12 @@ module _ (config : Config) (h : List Entry) (note : Note) (range : IsInRange con
               (added config h s c range was).received,
               k.received s c was,
             )));
-        group = (let more : HasOneMore w.group (step w note).world.group = one_step_more w note in
+        group = λ b. (let more : HasOneMore (group_of w b) (group_of (step w note).world b) =
+            one_step_more w note b in
             record {
-              accepted = omega (arith, more.accepted, k.group.accepted);
-              number = omega (arith, more.number, k.group.number);
-              sent = omega (arith, more.sent, k.group.sent);
+              accepted = omega (arith, more.accepted, (k.group b).accepted);
+              number = omega (arith, more.number, (k.group b).number);
+              sent = omega (arith, more.sent, (k.group b).sent);
             });
       }
 
@@ -275,10 +278,14 @@ module _ (v : TransmitValue) (w : World) (bodies : ℕ → FrameValue) (st : Sta
         received = λ s c live. share_below (λ m. received_in m c) (λ y. (share_in y c).received) n
             (member v.members s) (at None w.stations s) (o.stations.live s) (λ k y is. is.received c) live
             (h.received s c);
-        group = record {
-          accepted = omega (arith, ap (λ (g : GroupState). g.accepted) o.group, h.group.accepted);
-          number = omega (arith, ap (λ (g : GroupState). g.number) o.group, h.group.number);
-          sent = omega (arith, ap (λ (g : GroupState). g.sent) o.group, h.group.sent);
+        group = λ b. record {
+          accepted = omega (
+            arith,
+            ap (λ (g : GroupState). g.accepted) (o.groups.each b),
+            (h.group b).accepted,
+          );
+          number = omega (arith, ap (λ (g : GroupState). g.number) (o.groups.each b), (h.group b).number);
+          sent = omega (arith, ap (λ (g : GroupState). g.sent) (o.groups.each b), (h.group b).sent);
         };
       }
 
@@ -297,10 +304,14 @@ module _ (v : TransmitValue) (w : World) (bodies : ℕ → FrameValue) (st : Sta
             (o.stations.live s) (λ k y there is. subst (λ (m : ℕ). m < n) (sym (is.received c))
             (subst (λ (x : Option Station). (share_in (unwrap_or x no_station) c).received < n) there
             (h.received s c (ap is_some there))));
-        group = record {
-          accepted = omega (arith, ap (λ (g : GroupState). g.accepted) o.group, h.group.accepted);
-          number = omega (arith, ap (λ (g : GroupState). g.number) o.group, h.group.number);
-          sent = omega (arith, ap (λ (g : GroupState). g.sent) o.group, h.group.sent);
+        group = λ b. record {
+          accepted = omega (
+            arith,
+            ap (λ (g : GroupState). g.accepted) (o.groups.each b),
+            (h.group b).accepted,
+          );
+          number = omega (arith, ap (λ (g : GroupState). g.number) (o.groups.each b), (h.group b).number);
+          sent = omega (arith, ap (λ (g : GroupState). g.sent) (o.groups.each b), (h.group b).sent);
         };
       }
 
@@ -328,10 +339,10 @@ below_more v n k more h = record {
   accepted = omega (arith, more, h.accepted);
   charged = λ s c. still_less (λ m. charged_in m c) n k (member v.members s) more (h.charged s c);
   received = λ s c. still_less (λ m. received_in m c) n k (member v.members s) more (h.received s c);
-  group = record {
-    accepted = omega (arith, more, h.group.accepted);
-    number = omega (arith, more, h.group.number);
-    sent = omega (arith, more, h.group.sent);
+  group = λ b. record {
+    accepted = omega (arith, more, (h.group b).accepted);
+    number = omega (arith, more, (h.group b).number);
+    sent = omega (arith, more, (h.group b).sent);
   };
 }
 
@@ -342,13 +353,13 @@ no_rise v n = below_more v n (n + greatest_tick) (omega arith)
 -- ---- calls that leave all counts as they are
 
 -- u has the stations and the group frames of w and as many accepted frames, and its clock and its number of
--- exchanges are those of w
+-- exchanges equal those of w
 pub record KeepsCounts (w u : World) : Type 0 where
   pub clock : u.clock ≡ w.clock
   pub exchanges : u.exchanges ≡ w.exchanges
   pub accepted : accepted_count u ≡ accepted_count w
   pub stations : u.stations ≡ w.stations
-  pub group : u.group ≡ w.group
+  pub groups : u.groups ≡ w.groups
 
 below_kept : (n : ℕ) (w u : World) → KeepsCounts w u → AreBelow n w → AreBelow n u
 below_kept n w u k h = record {
@@ -359,7 +370,7 @@ below_kept n w u k h = record {
       (share_in (unwrap_or (at None xs s) no_station) c).charged < n) (sym k.stations) (h.charged s c);
   received = λ s c. subst (λ (xs : List (Option Station)). is_some (at None xs s) ≡ true →
       (share_in (unwrap_or (at None xs s) no_station) c).received < n) (sym k.stations) (h.received s c);
-  group = subst (GroupIsBelow n) (sym k.group) h.group;
+  group = λ b. subst (λ (gs : List GroupState). GroupIsBelow n (at no_group gs b)) (sym k.groups) (h.group b);
 }
 
 pub counts_kept : (v y : TransmitValue) (w u : World) (bodies after : ℕ → FrameValue) → StandsFor v w bodies →

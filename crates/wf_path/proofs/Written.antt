@@ -125,7 +125,7 @@ module _ (a : Addresses) (v : TransmitValue) (e : ℕ) (o : Open) (index seq : �
     (is : Some o ≡ find (λ x. x.number == e) v.opened) (asks : o.sending ≡ Starts_at seq)
     (first : index < transmissions_of o.sending)
     (w : World) (bodies : ℕ → FrameValue) (h : StandsFor v w bodies) (bar : Bar) (head : List ℕ)
-    (bar_is : (x : Exchange) (start : ℕ) → o ≡ open_of x → seq ≡ on_air start → bar ≡ bar_of a x start)
+    (bar_is : (x : Exchange) (start : ℕ) → o ≡ open_of x → seq ≡ on_air start → bar ≡ bar_of a w x start)
     (head_is : head ≡ head_octets request narrow_fragment bar) where
   known : IsKnown w e o
   known = known_of v w bodies h e o is
@@ -136,11 +136,11 @@ module _ (a : Addresses) (v : TransmitValue) (e : ℕ) (o : Open) (index seq : �
   bar_octets_are : transmission_octets a w bodies known.exchange_is index ≡ Some (head ++ [])
   bar_octets_are =
       let at_first : index ≡ 0 = omega (arith, ap transmissions_of asks, first) in
-      let written : bar_octets a known.exchange_is asked.start ≡ head ++ [] =
+      let written : bar_octets a w known.exchange_is asked.start ≡ head ++ [] =
       sym (append-nil head ∙ head_is ∙ ap (head_octets request narrow_fragment)
       (bar_is known.exchange_is asked.start known.same asked.air)) in
       ap (λ (c : Content). slice_get (octets_of_content a w bodies known.exchange_is c) index) asked.content
-      ∙ ap (slice_get (bar_octets a known.exchange_is asked.start ∷ [])) at_first
+      ∙ ap (slice_get (bar_octets a w known.exchange_is asked.start ∷ [])) at_first
       ∙ ap Some written
 
   pub request_sent : octets_sent a w bodies e index ≡ Some (head ++ [])

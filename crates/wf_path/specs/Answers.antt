@@ -9,7 +9,7 @@ use Rattle.wf_octets.specs.Fields.{number_at, part}
 use Rattle.wf_octets.specs.HeaderLayout.{address_1_at, address_2_at, address_octets}
 use Rattle.wf_octets.specs.BlockLayout.{answer}
 use Rattle.wf_octets.specs.BlockFaults.{first_block_fault}
-use Rattle.wf_def_world.specs.World.{World, exchange, is_wide}
+use Rattle.wf_def_world.specs.World.{World, station, exchange, is_wide}
 use Rattle.wf_path.specs.Addresses.{Addresses, address_in, bss_in}
 use Rattle.wf_path.specs.declared.faults.DoneFault.{DoneFault}
 use Rattle.wf_path.specs.declared.faults.DoneFault.TheVariants.{NoExchange, Block, NotMine, WrongTid}
@@ -53,21 +53,22 @@ layout_fault wide octets =
     let long : Bool = is_read_wide wide octets in
     option_map Block (first_block_fault (block_ack_octets long) answer long octets)
 
--- the check that the BlockAck is to the access point and from station s
-abbrev pub address_fault : Addresses → ℕ → List ℕ → Option DoneFault
-address_fault a s octets = if bytes_eq (recipient_in octets) (bss_in a s)
+-- the check that the BlockAck is to the access point of BSS b and from station s
+abbrev pub address_fault : Addresses → ℕ → ℕ → List ℕ → Option DoneFault
+address_fault a s b octets = if bytes_eq (recipient_in octets) (bss_in a b)
     && bytes_eq (transmitter_in octets) (address_in a s) then None else Some NotMine
 
 -- the check that the BlockAck is for TID t
 abbrev pub tid_fault : ℕ → List ℕ → Option DoneFault
 tid_fault t octets = if tid_in octets == t then None else Some (WrongTid (tid_in octets))
 
--- the first check that fails, for an exchange to TID t of station s
-abbrev pub answer_fault : Addresses → Bool → ℕ → ℕ → List ℕ → Option DoneFault
-answer_fault a wide s t octets = option_or (layout_fault wide octets)
-    (option_or (address_fault a s octets) (tid_fault t octets))
+-- the first check that fails, for an exchange to TID t of station s, which is of BSS b
+abbrev pub answer_fault : Addresses → Bool → ℕ → ℕ → ℕ → List ℕ → Option DoneFault
+answer_fault a wide s b t octets = option_or (layout_fault wide octets)
+    (option_or (address_fault a s b octets) (tid_fault t octets))
 
 -- the first check that fails, for exchange e
 abbrev pub read_fault : Addresses → World → ℕ → List ℕ → Option DoneFault
 read_fault a w e octets = option_map_or
-    (λ x. answer_fault a (is_wide w x.station x.tid) x.station x.tid octets) (exchange w e) (Some NoExchange)
+    (λ x. answer_fault a (is_wide w x.station x.tid) x.station (station w x.station).bss x.tid octets)
+    (exchange w e) (Some NoExchange)

@@ -7,14 +7,14 @@ use Rattle.wf_octets.specs.declared.header.group.GroupHeader.{GroupHeader}
 use Rattle.wf_send_parts.specs.Group.{GroupValue}
 use Rattle.wf_send_parts.specs.Window.{on_air}
 use Rattle.wf_send_parts.specs.declared.group.GroupFlight.{GroupFlight}
-use Rattle.wf_path.specs.Addresses.{Addresses}
+use Rattle.wf_path.specs.Addresses.{Addresses, bss_in}
 
--- its header with this source: to its destination, from the access point
-abbrev pub group_header_of : Addresses → List ℕ → GroupFlight → GroupHeader
-group_header_of a source x = record {
+-- its header with this source: to its destination, from the access point of BSS b
+abbrev pub group_header_of : Addresses → ℕ → List ℕ → GroupFlight → GroupHeader
+group_header_of a b source x = record {
   more = x.more;
   group = x.frame.to;
-  bss = a.base;
+  bss = bss_in a b;
   source = source;
   seq = on_air x.number;
 }

@@ -59,8 +59,9 @@ as_ask (path.Hold station tid) = machine.Hold station tid
 as_ask (path.Begin station tid window) = machine.Begin station tid window
 as_ask (path.Free station tid) = machine.Free station tid
 as_ask (path.Cease station tid) = machine.Cease station tid
-as_ask (path.Group ask) = machine.Group ask
+as_ask (path.Group call) = machine.Group call
 as_ask (path.Service ask) = machine.Service ask
+as_ask (path.Bss station bss) = machine.Bss station bss
 
 -- the machine's job that a path's job is
 abbrev pub job_of : PathJob → Job
@@ -74,6 +75,11 @@ abbrev pub ask_about : ExchangeAsk → Ask
 ask_about (about.Arrive exchange index) = machine.Arrive exchange index
 ask_about (about.Answer exchange) = machine.Answer exchange
 ask_about (about.Done exchange heard air) = machine.Done exchange heard air
+
+-- the BSS whose group frames a call is about; 0 if it is about none
+abbrev pub bss_asked : Note → ℕ
+bss_asked (Asked (machine.Group call)) = call.bss
+bss_asked note = 0
 
 -- Whether a path answers a call as the machine does in the world w. A path does not know what arrived, so a
 -- caller that knows makes the call Unsent only for a transmission that has not arrived, of an exchange

@@ -10,12 +10,12 @@ use Rattle.wf_def_lists.specs.Bounds.{greatest_tick}
 use Rattle.wf_def_world.specs.World.{World}
 use Rattle.wf_send_parts.specs.Group.{HasGroupBelow}
 use Rattle.wf_send_parts.specs.Members.{member, charged_in, received_in}
-use Rattle.wf_send_half_model.specs.Half.{TransmitValue}
+use Rattle.wf_send_half_model.specs.Half.{TransmitValue, group_in}
 use Rattle.wf_send_half_model.specs.Standing.{StandsFor, Meets}
 use Rattle.wf_send_half.specs.Half.{HasUnheardWorld}
 use Rattle.wf_path.specs.Addresses.{Addresses}
 use Rattle.wf_path.specs.Group.{FliesAsSaid}
-use Rattle.wf_path.specs.Jobs.{MayCall, bodies_after, changes_nothing, is_refused, with_released}
+use Rattle.wf_path.specs.Jobs.{MayCall, bss_asked, bodies_after, changes_nothing, is_refused, with_released}
 use Rattle.wf_path.specs.declared.job.Job.TheVariants.{Call}
 
 -- a path: its transmit half, and the addresses of its frames
@@ -29,14 +29,14 @@ abbrev pub IsPath : TransmitValue → Type 0
 IsPath = HasUnheardWorld
 
 -- The counts of a path are below n: the clock, the exchanges that were opened, the frames that were accepted,
--- what each live station was charged and used in each class, and the counts of group frames.
+-- what each live station was charged and used in each class, and the counts of group frames of each BSS.
 pub record HasCountsBelow (n : ℕ) (v : TransmitValue) : Type 0 where
   pub clock : v.clock < n
   pub exchanges : v.exchanges < n
   pub accepted : v.tally.accepted < n
   pub charged : (s : ℕ) (c : Class) → IfSome (member v.members s) (λ m. charged_in m c < n)
   pub received : (s : ℕ) (c : Class) → IfSome (member v.members s) (λ m. received_in m c < n)
-  pub group : HasGroupBelow n v.group
+  pub group : (b : ℕ) → HasGroupBelow n (group_in v b)
 
 -- the counts are below 2^62, so that one more call overflows none
 abbrev pub IsSmall : TransmitValue → Type 0
@@ -59,7 +59,8 @@ pub record IsAnswered (p : PathValue) (ask : Ask) (q : PathValue) (brief : Brief
   pub refused : (ids : List ℕ) → changes_nothing (reply_with brief pairs ids) ≡ true → q ≡ p
   pub pending : (ids : List ℕ) → p.half.config.pending ≡ 1 → is_refused (reply_with brief pairs ids) ≡ true →
       q ≡ p
-  pub flight : (ids : List ℕ) → FliesAsSaid q.half.group (reply_with brief pairs ids)
+  pub flight : (ids : List ℕ) →
+      FliesAsSaid (group_in q.half (bss_asked (Asked ask))) (reply_with brief pairs ids)
   pub addresses : q.addresses ≡ p.addresses
   pub path : IsPath q.half
   pub rises : RiseLittle p.half q.half

@@ -2,7 +2,7 @@
 --
 -- The world `w` has the exchange, `bodies` has the frame of each id as it was accepted, and `a` has the
 -- addresses.
-use Rattle.std.specs.Prelude.{ℕ, ◌+◌, ◌==◌, nat_lt, Bool, true, false, not, ◌&&◌, List, [], ◌∷◌, ◌++◌, map, slice_get, Option, Some, None, option_and_then, option_map, if◌then◌else◌}
+use Rattle.std.specs.Prelude.{ℕ, ◌+◌, ◌==◌, nat_lt, Bool, true, false, not, ◌&&◌, ◌||◌, List, [], ◌∷◌, ◌++◌, map, slice_get, Option, Some, None, option_and_then, option_map, if◌then◌else◌}
 use Rattle.std.specs.List.{last_or}
 use Rattle.std.specs.Option.{option_map_or}
 use Rattle.wf_frame.specs.Frames.{FrameValue}
@@ -14,7 +14,7 @@ use Rattle.wf_octets.specs.declared.header.header.Kind.TheVariants.{QosData}
 use Rattle.wf_octets.specs.BlockLayout.{head_octets, request, narrow_fragment}
 use Rattle.wf_octets.specs.declared.block.frames.Bar.{Bar}
 use Rattle.wf_send_parts.specs.Window.{on_air}
-use Rattle.wf_def_world.specs.World.{World, Mpdu, Content, Frames, Request, Exchange, session, exchange, is_live, is_agreed}
+use Rattle.wf_def_world.specs.World.{World, Mpdu, Content, Frames, Request, Exchange, station, session, exchange, is_live, is_agreed}
 use Rattle.wf_def_world.specs.CanSend.{is_request}
 use Rattle.wf_def_world.specs.Exchanges.{mpdus_of, transmissions}
 use Rattle.wf_path.specs.Addresses.{Addresses, address_in, bss_in}
@@ -35,9 +35,10 @@ is_retried w s t n = nat_lt 0 (slot (session w s t) n).attempts
 abbrev pub is_last_frame : Exchange → Mpdu → Bool
 is_last_frame x m = option_map_or (λ l. l.number == m.number) (last_or None (mpdus_of x.content)) false
 
--- the header of a data transmission from the distribution system (8.3.2.1): to the station, from the access
--- point, with the source of its frame, the sequence number modulo 4096, and the More Data bit of its exchange
--- (8.2.4.1.8). If the exchange ends a service period, its last frame has the EOSP bit (8.2.4.5.3).
+-- The header of a data transmission from the distribution system (8.3.2.1): to the station, from the access
+-- point of its BSS, with the source of its frame, the sequence number modulo 4096, and the More Data bit of
+-- its exchange (8.2.4.1.8). If the exchange ends a service period, its last frame has the EOSP bit
+-- (8.2.4.5.3), and each frame before that has the More Data bit.
 abbrev pub header_of : Addresses → World → (ℕ → FrameValue) → Exchange → Mpdu → Header
 header_of a w bodies x m = record {
   kind = QosData;
@@ -45,10 +46,10 @@ header_of a w bodies x m = record {
   from_ds = true;
   retry = is_retried w x.station x.tid m.number;
   power = false;
-  more = x.more;
+  more = x.more || (x.eosp && not (is_last_frame x m));
   duration = duration x.plain;
   a1 = address_in a x.station;
-  a2 = bss_in a x.station;
+  a2 = bss_in a (station w x.station).bss;
   a3 = (bodies m.id).source;
   seq = on_air m.number;
   tid = x.tid;
@@ -59,26 +60,26 @@ header_of a w bodies x m = record {
 abbrev pub data_octets : Addresses → World → (ℕ → FrameValue) → Exchange → Mpdu → List ℕ
 data_octets a w bodies x m = header_as_octets (header_of a w bodies x m) ++ (bodies m.id).body
 
--- the BlockAckReq of an exchange with this start (8.3.1.8): to the station, from the access point
-abbrev pub bar_of : Addresses → Exchange → ℕ → Bar
-bar_of a x start = record {
+-- the BlockAckReq of an exchange with this start (8.3.1.8): to the station, from the access point of its BSS
+abbrev pub bar_of : Addresses → World → Exchange → ℕ → Bar
+bar_of a w x start = record {
   ra = address_in a x.station;
-  ta = bss_in a x.station;
+  ta = bss_in a (station w x.station).bss;
   duration = duration false;
   tid = x.tid;
   start = on_air start;
 }
 
 -- the octets of a transmission of a BlockAckReq
-abbrev pub bar_octets : Addresses → Exchange → ℕ → List ℕ
-bar_octets a x start = head_octets request narrow_fragment (bar_of a x start)
+abbrev pub bar_octets : Addresses → World → Exchange → ℕ → List ℕ
+bar_octets a w x start = head_octets request narrow_fragment (bar_of a w x start)
 
 -- ---- the transmissions of an exchange
 
 -- the octets of each transmission of this content: one for each frame, or one BlockAckReq
 abbrev pub octets_of_content : Addresses → World → (ℕ → FrameValue) → Exchange → Content → List (List ℕ)
 octets_of_content a w bodies x (Frames mpdus) = map (data_octets a w bodies x) mpdus
-octets_of_content a w bodies x (Request start) = bar_octets a x start ∷ []
+octets_of_content a w bodies x (Request start) = bar_octets a w x start ∷ []
 
 -- the octets of each transmission of an exchange, in order
 abbrev pub frames_on_air : Addresses → World → (ℕ → FrameValue) → Exchange → List (List ℕ)

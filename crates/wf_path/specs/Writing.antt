@@ -15,7 +15,7 @@ room_fault room (Some octets) = if nat_lt room (length octets) then Some (SmallB
     else None
 
 -- the first check that fails, for a transmission of exchange e and a buffer with this room, in octets, if
--- zeros may stand for the body of a bare frame
+-- zeros may represent the body of a bare frame
 abbrev pub write_fault : Addresses → World → (ℕ → FrameValue) → ℕ → ℕ → ℕ → Option PathFault
 write_fault a w bodies e index room = option_map_or
     (λ x. room_fault room (transmission_octets a w bodies x index)) (exchange w e) (Some NoExchange)

@@ -1,10 +1,9 @@
 //! The addresses of a path, and the association identifiers (AID) of its stations.
 
-ghost use Rattle.std.specs.Prelude.{◌≡◌, ◌<◌, Some, slice_index_or, IfOk, OnOk, OnErr};
+ghost use Rattle.std.specs.Prelude.{◌≡◌, ◌<◌, Some, IfOk, OnOk, OnErr};
 ghost use Rattle.std.specs.Result.{result_err};
-ghost use Rattle.wf_path.specs.Addresses.{made_up, address_in, bss_in, is_of, aid_in, IsAid, with_base, with_address, with_bss, with_aid, address_told, group_fault, set_fault};
+ghost use Rattle.wf_path.specs.Addresses.{made_up, address_in, bss_in, aid_in, IsAid, with_base, with_address, with_bss, with_aid, address_told, group_fault, set_fault};
 
-use crate::answers::is_same;
 use crate::{BadAddress, Path};
 use std::alloc::{AllocError, Global};
 use std::marker::Model;
@@ -13,14 +12,17 @@ use wf_octets::header::{base_address, station_address};
 /// The station numbers, 0 to 255.
 const NUMBERS: u16 = 256;
 
-/// The access point's address, and for each station number the station's, that of its BSS, and its AID.
+/// The BSS numbers, 0 to 15.
+const BSSES: usize = 16;
+
+/// The access point's address, that of each BSS, and for each station number the station's and its AID.
 #[derive(Drop)]
 pub(crate) struct AddressBook {
     base: [u8; 6],
     /// By station number.
     stations: Vec<[u8; 6]>,
-    /// The access point's address for a station, by station number. None means `base`.
-    bsses: Vec<Option<[u8; 6]>>,
+    /// The access point's address in a BSS, by BSS number. None means `base`.
+    bsses: [Option<[u8; 6]>; BSSES],
     /// By station number, each 1 to 2007.
     aids: Vec<u16>,
 }
@@ -34,12 +36,11 @@ impl Model for AddressBook {
     ghost view = { λ b. record {
       base = b.base;
       stations = b.stations.items;
-      bsses = b.bsses.items;
+      bsses = b.bsses;
       aids = b.aids.items;
     } };
 
-    ghost invariant = { λ b. (length b.stations.items ≡ station_numbers) ×
-        (length b.bsses.items ≡ station_numbers) × HasAids b.aids.items };
+    ghost invariant = { λ b. (length b.stations.items ≡ station_numbers) × HasAids b.aids.items };
 }
 
 impl AddressBook {
@@ -48,17 +49,15 @@ impl AddressBook {
         ensures { IfOk result (λ made. made ≡ made_up) }
     {
         let mut stations = Vec::new(alloc);
-        let mut bsses = Vec::new(alloc);
         let mut aids = Vec::new(alloc);
         for station in 0..NUMBERS {
             stations.push(station_address(station))?;
-            bsses.push(None)?;
             aids.push(station + 1)?;
         }
         Ok(AddressBook {
             base: base_address(),
             stations,
-            bsses,
+            bsses: [None; BSSES],
             aids,
         })
     }
@@ -80,23 +79,13 @@ impl AddressBook {
         }
     }
 
-    // Returns the access point's address in frames to and from a station.
-    pub(crate) fn bss(&self, station: u16) -> [u8; 6]
-        ensures { result ≡ bss_in self.now station }
+    // Returns the access point's address in a BSS.
+    pub(crate) fn bss(&self, bss: u8) -> [u8; 6]
+        ensures { result ≡ bss_in self.now bss }
     {
-        match self.bsses.get(usize::from(station)) {
+        match self.bsses.get(usize::from(bss)) {
             Some(Some(address)) => *address,
             _ => self.base,
-        }
-    }
-
-    // Returns whether a station is of this BSS. Each is if none is given.
-    pub(crate) fn is_of(&self, bss: Option<[u8; 6]>, station: u16) -> bool
-        ensures { result ≡ is_of self.now bss station }
-    {
-        match bss {
-            Some(address) => is_same(&self.bss(station), &address),
-            None => true,
         }
     }
 
@@ -125,13 +114,13 @@ impl AddressBook {
         self.stations[usize::from(station)] = address;
     }
 
-    // Replaces the address of a station's BSS.
-    pub(crate) fn set_bss(&mut self, station: u16, address: [u8; 6])
-        requires { station < 256 }
-        ensures set { self.new ≡ with_bss self.old station address }
-        ensures kept { bss_in self.new station ≡ address }
+    // Replaces the access point's address in a BSS.
+    pub(crate) fn set_bss(&mut self, bss: u8, address: [u8; 6])
+        requires { bss < 16 }
+        ensures set { self.new ≡ with_bss self.old bss address }
+        ensures kept { bss_in self.new bss ≡ address }
     {
-        self.bsses[usize::from(station)] = Some(address);
+        self.bsses[usize::from(bss)] = Some(address);
     }
 
     // Replaces a station's AID.
@@ -157,7 +146,7 @@ pub(crate) fn check_group(address: [u8; 6]) -> Result<(), BadAddress>
 
 impl Path {
     /// Returns the access point's address, which sends the transmissions and receives the BlockAcks, except
-    /// those of stations with the address of another BSS (`set_bss`). A new path has 02:00:00:00:00:00.
+    /// those of a BSS whose address was set (`set_bss_address`). A new path has 02:00:00:00:00:00.
     pub fn base(&self) -> [u8; 6]
         ensures { result ≡ self.now.addresses.base }
     {

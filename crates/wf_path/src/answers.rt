@@ -45,22 +45,24 @@ pub(crate) fn read_block_ack(
         return Err(DoneFault::NoExchange);
     };
     let wide = half.window(open.station, open.tid).size() > NARROW_WINDOW;
-    read_answer(addresses, open.station, open.tid, wide, octets)
+    let bss = half.bss(open.station);
+    read_answer(addresses, open.station, bss, open.tid, wide, octets)
 }
 
-/// Reads the BlockAck from a station, for one of its TIDs. `wide` is whether its window is above 64.
+/// Reads the BlockAck from a station of a BSS, for one of its TIDs. `wide` is whether its window is above 64.
 fn read_answer(
     addresses: &AddressBook,
     station: u16,
+    bss: u8,
     tid: u8,
     wide: bool,
     octets: &[u8],
 ) -> Result<(Seq12, Bits256), DoneFault>
-    ensures fault { result_err result ≡ answer_fault addresses.now wide station tid octets.now }
+    ensures fault { result_err result ≡ answer_fault addresses.now wide station bss tid octets.now }
     ensures read { IfOk result (λ read. read ≡ block_ack_in octets.now) }
 {
     let answer = decode(is_read_wide(wide, octets), octets)?;
-    if !is_from(addresses, station, &answer) {
+    if !is_from(addresses, station, bss, &answer) {
         return Err(DoneFault::NotMine);
     }
     if answer.tid != tid {
@@ -106,17 +108,17 @@ fn decode(wide: bool, octets: &[u8]) -> Result<WideBa, BlockFault>
     })
 }
 
-/// Returns whether a BlockAck is from a station to the access point.
-fn is_from(addresses: &AddressBook, station: u16, ba: &WideBa) -> bool
-    ensures { result ≡ (bytes_eq ba.now.ra (bss_in addresses.now station)
+/// Returns whether a BlockAck is from a station to the access point of its BSS.
+fn is_from(addresses: &AddressBook, station: u16, bss: u8, ba: &WideBa) -> bool
+    ensures { result ≡ (bytes_eq ba.now.ra (bss_in addresses.now bss)
         && bytes_eq ba.now.ta (address_in addresses.now station)) }
 {
-    is_same(&ba.ra, &addresses.bss(station)) && is_same(&ba.ta, &addresses.of(station))
+    is_same(&ba.ra, &addresses.bss(bss)) && is_same(&ba.ta, &addresses.of(station))
 }
 
 /// Returns whether two addresses are equal. Each BlockAck needs this, so it compares octet by octet rather
 /// than by a call.
-pub(crate) fn is_same(one: &[u8; 6], other: &[u8; 6]) -> bool
+fn is_same(one: &[u8; 6], other: &[u8; 6]) -> bool
     ensures { result ≡ bytes_eq one.now other.now }
 {
     one.iter()

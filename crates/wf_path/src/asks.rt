@@ -5,7 +5,7 @@ ghost use Rattle.wf_path.specs.Jobs.{job_of, ask_about};
 ghost use Rattle.wf_path.specs.declared.asks.PathAsk.TheVariants.{Join, Offload, Plain, Begin};
 ghost use Rattle.wf_path.specs.declared.job.Job.TheVariants.{Call};
 
-use wf_frame::{Ask, AskedRate, Class, GroupAsk, Limits, ServiceAsk};
+use wf_frame::{Ask, AskedRate, Class, GroupCall, Limits, ServiceAsk};
 use wf_queue_parts::chain::Parcel;
 
 /// A call of a path.
@@ -23,7 +23,7 @@ pub enum PathJob {
     Reap,
 }
 
-/// A call of a path that brings and returns no frame, and whose answer has no lists: one of twenty-three. An
+/// A call of a path that brings and returns no frame, and whose answer has no lists: one of twenty-four. An
 /// argument outside its given range is refused.
 #[derive(Clone, Copy, Debug, PartialEq, Eq)]
 pub enum PathAsk {
@@ -151,13 +151,20 @@ pub enum PathAsk {
         station: u16,
         tid: u8,
     },
-    /// A call about group frames. One that is accepted so has the tag 0, and all stations are its
-    /// destination; `Path::accept_group` accepts one with a tag and a destination.
-    Group(GroupAsk),
+    /// A call about the group frames of a BSS. One that is accepted so has the tag 0, and all stations are
+    /// its destination; `Path::accept_group` accepts one with a tag and a destination.
+    Group(GroupCall),
     /// A call about the service periods of a station that sleeps (U-APSD; IEEE 802.11-2012, 10.2.1.5). Set
     /// is refused as BadStation, BadClasses, NoStation or Asleep; Trigger as BadStation, NoStation, Awake,
     /// Polled or Nothing; End as BadStation, NoStation or Nothing.
     Service(ServiceAsk),
+    /// Sets the BSS of a station, 0 to `bsses` - 1: while it sleeps it hears the beacons of this
+    /// BSS, and frames to and from it have the BSS's address. Refused as BadStation, BadBss,
+    /// NoStation or Asleep.
+    Bss {
+        station: u16,
+        bss: u8,
+    },
 }
 
 /// A call of the machine about an open exchange. A path does not take it: it has no receivers, and
@@ -309,8 +316,9 @@ impl PathJob {
             } => Ok(PathJob::Call(PathAsk::begin(station, tid, window))),
             Ask::Free { station, tid } => Ok(PathJob::Call(PathAsk::Free { station, tid })),
             Ask::Cease { station, tid } => Ok(PathJob::Call(PathAsk::Cease { station, tid })),
-            Ask::Group(ask) => Ok(PathJob::Call(PathAsk::Group(ask))),
+            Ask::Group(call) => Ok(PathJob::Call(PathAsk::Group(call))),
             Ask::Service(ask) => Ok(PathJob::Call(PathAsk::Service(ask))),
+            Ask::Bss { station, bss } => Ok(PathJob::Call(PathAsk::Bss { station, bss })),
         }
     }
 }

@@ -1,8 +1,13 @@
-//! The BSSs and the association identifiers (AID) of a path's stations.
+//! The BSSs of a path, and the association identifiers (AID) of its stations.
 
-ghost use Rattle.std.specs.Prelude.{◌≡◌, OnOk, OnErr};
+ghost use Rattle.std.specs.Prelude.{◌≡◌, ◌≤◌, ℕ, OnOk, OnErr};
 ghost use Rattle.std.specs.Result.{result_err};
-ghost use Rattle.wf_path.specs.Addresses.{bss_in, aid_in, with_bss, with_aid, set_fault, aid_fault};
+ghost use Rattle.wf_frame.specs.Frames.{FrameValue};
+ghost use Rattle.wf_def_world.specs.Group.{bss_count};
+ghost use Rattle.wf_def_world.specs.World.{World, station as world_station};
+ghost use Rattle.wf_send_half_model.specs.Standing.{StandsFor};
+ghost use Rattle.wf_path.specs.Addresses.{bss_in, aid_in, with_bss, with_aid, bss_fault, aid_fault};
+ghost use Rattle.wf_path.specs.Traffic.{bss_of};
 
 use crate::addresses::check_group;
 use crate::{AidFault, BadAddress, Path};
@@ -11,22 +16,49 @@ use crate::{AidFault, BadAddress, Path};
 const GREATEST_AID: u16 = 2007;
 
 impl Path {
-    /// Sets the access point's address (BSSID) in frames to and from a station, live or not, in place of
-    /// `base`, which no longer changes it; a join or a leave changes no address. Refused as NoStation if the
-    /// number is not below the setting `stations`, then as Group if the address is a group's.
-    pub fn set_bss(&mut self, station: u16, address: [u8; 6]) -> Result<(), BadAddress>
-        ensures fault { result_err result ≡ set_fault self.old.half.config.stations station address }
+    /// Returns the number of BSSs, 1 to 16: the setting `bsses`, or 1 if that is 0. Their numbers are below
+    /// it.
+    pub fn bss_count(&self) -> u32
+        ensures value { result ≡ bss_count self.now.half.config.bsses }
+        ensures world { (w : World) (bodies : ℕ → FrameValue) → StandsFor self.now.half w bodies →
+            result ≡ bss_count w.config.bsses }
+        ensures range { (1 ≤ result) × (result ≤ 16) }
+    {
+        self.half.bss_count()
+    }
+
+    /// Returns the number of a station's BSS (`PathAsk::Bss`). That of a station that is not live is 0.
+    pub fn bss(&self, station: u16) -> u8
+        ensures value { result ≡ bss_of self.now.half station }
+        ensures world { (w : World) (bodies : ℕ → FrameValue) → StandsFor self.now.half w bodies →
+            result ≡ (world_station w station).bss }
+    {
+        self.half.bss(station)
+    }
+
+    /// Returns the access point's address (BSSID) in a BSS: that of `set_bss_address`, or `base`.
+    pub fn bss_address(&self, bss: u8) -> [u8; 6]
+        ensures { result ≡ bss_in self.now.addresses bss }
+    {
+        self.addresses.bss(bss)
+    }
+
+    /// Sets the access point's address (BSSID) in a BSS; then `set_base` no longer changes it.
+    /// Frames of the BSS have it: those to and from its stations, and its group frames. Refused as BadBss if
+    /// there is no BSS of that number, then as Group if the address is a group's.
+    pub fn set_bss_address(&mut self, bss: u8, address: [u8; 6]) -> Result<(), BadAddress>
+        ensures fault { result_err result ≡ bss_fault self.old.half.config.bsses bss address }
         ensures set { OnOk result (self.new ≡ record self.old {
-          addresses = with_bss self.old.addresses station address;
+          addresses = with_bss self.old.addresses bss address;
         }) }
-        ensures kept { OnOk result (bss_in self.new.addresses station ≡ address) }
+        ensures kept { OnOk result (bss_in self.new.addresses bss ≡ address) }
         ensures unchanged { OnErr result (self.new ≡ self.old) }
     {
-        if u32::from(station) >= self.half.config().stations {
-            return Err(BadAddress::NoStation);
+        if u32::from(bss) >= self.half.bss_count() {
+            return Err(BadAddress::BadBss);
         }
         check_group(address)?;
-        self.addresses.set_bss(station, address);
+        self.addresses.set_bss(bss, address);
         Ok(())
     }
 

@@ -3,15 +3,16 @@
 ghost use Rattle.std.specs.Prelude.{◌≡◌, ℕ, true, List, Option};
 ghost use Rattle.wf_frame.specs.Frames.{FrameValue};
 ghost use Rattle.wf_frame.specs.Answers.{reply_of, reply_with};
-ghost use Rattle.wf_frame.specs.declared.notes.Ask.TheVariants.{Join, Leave, Rate, Tick, Sleep, Wake, Poll, Rx, Reap, Ampdu, Stop, Start, Unsent, GiveUp, Flush, Offload, Weight, Plain, Hold, Begin, Free, Cease};
+ghost use Rattle.wf_frame.specs.declared.notes.Ask.TheVariants.{Join, Leave, Rate, Tick, Sleep, Wake, Poll, Rx, Reap, Ampdu, Stop, Start, Unsent, GiveUp, Flush, Offload, Weight, Plain, Hold, Begin, Free, Cease, Bss};
 ghost use Rattle.wf_frame.specs.declared.notes.ReplyNote.TheVariants.{Accepted, Refused};
 ghost use Rattle.wf_def_world.specs.World.{World};
 ghost use Rattle.wf_def_world.specs.Step.{step};
 ghost use Rattle.wf_law_driver.specs.Unheard.{IsUnheard};
 ghost use Rattle.wf_send_half.specs.Replies.{reaped_reply};
+ghost use Rattle.wf_send_half_model.specs.Half.{group_in};
 ghost use Rattle.wf_send_half_model.specs.Standing.{StandsFor, Meets};
 ghost use Rattle.wf_path.specs.Group.{FliesAsSaid};
-ghost use Rattle.wf_path.specs.Jobs.{as_ask, job_of, note_of, MayCall, bodies_after, frame_given_back, changes_nothing, is_refused, with_released};
+ghost use Rattle.wf_path.specs.Jobs.{as_ask, job_of, note_of, bss_asked, MayCall, bodies_after, frame_given_back, changes_nothing, is_refused, with_released};
 ghost use Rattle.wf_path.specs.Paths.{IsPath, IsSmall, RiseLittle, IsAnsweredBriefly};
 
 use crate::{Path, PathAsk, PathJob};
@@ -38,7 +39,8 @@ impl Path {
             IsUnheard w → IsUnheard (step w (note_of (job_of job))).world }
 
         // the header of a group frame has the number and the More Data bit of the answer to its pull
-        ensures group_flight { FliesAsSaid self.new.half.group (reply_of answer.new) }
+        ensures group_flight { FliesAsSaid (group_in self.new.half (bss_asked (note_of (job_of job))))
+            (reply_of answer.new) }
         ensures addresses { self.new.addresses ≡ self.old.addresses }
         ensures path { IsPath self.new.half }
         ensures rises { RiseLittle self.old.half self.new.half }
@@ -121,8 +123,9 @@ impl Path {
             } => self.begin(station, tid, window),
             PathAsk::Free { station, tid } => self.free(station, tid),
             PathAsk::Cease { station, tid } => self.cease(station, tid),
-            PathAsk::Group(ask) => self.group(ask),
+            PathAsk::Group(call) => self.group(call),
             PathAsk::Service(ask) => self.service(ask),
+            PathAsk::Bss { station, bss } => self.set_bss(station, bss),
         }
     }
 
@@ -149,6 +152,15 @@ impl Path {
         ensures { IsAnsweredBriefly self.old (Ampdu station octets) self.new result }
     {
         match self.half.ampdu(station, octets) {
+            Ok(()) => Brief::Set,
+            Err(reason) => Brief::Refused(reason),
+        }
+    }
+
+    fn set_bss(&mut self, station: u16, bss: u8) -> Brief
+        ensures { IsAnsweredBriefly self.old (Bss station bss) self.new result }
+    {
+        match self.half.set_bss(station, bss) {
             Ok(()) => Brief::Set,
             Err(reason) => Brief::Refused(reason),
         }

@@ -20,7 +20,7 @@ use wf_send_parts::exchanges::{Numbers, Open, Sending};
 pub enum Outcome {
     /// It was acknowledged.
     Acked,
-    /// It was not acknowledged, and may be tried again. Of a batch this is the same as `GaveUp`, since the
+    /// It was not acknowledged, and may be tried again. In a batch this is the same as `GaveUp`, since the
     /// device has repeated it.
     Retry,
     /// It never went on the air.

@@ -36,6 +36,9 @@ pub enum BadAddress {
     /// The station's number is not below the setting `stations`.
     #[error("no such station")]
     NoStation,
+    /// There is no BSS of that number.
+    #[error("no such BSS")]
+    BadBss,
     /// The address is a group's: the lowest bit of its first octet is set (IEEE 802.11-2012, 8.2.4.3).
     #[error("a group's address")]
     Group,

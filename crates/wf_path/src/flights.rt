@@ -1,6 +1,6 @@
 //! The frame and the header of a data transmission.
 
-ghost use Rattle.std.specs.Prelude.{◌≡◌, ◌+◌, ◌==◌, ◌&&◌, ℕ, true};
+ghost use Rattle.std.specs.Prelude.{◌≡◌, ◌+◌, ◌==◌, ◌&&◌, ◌||◌, not, ℕ, true};
 ghost use Rattle.wf_frame.specs.Frames.{FrameValue};
 ghost use Rattle.wf_octets.specs.HeaderLayout.{IsPlain};
 ghost use Rattle.wf_octets.specs.declared.header.header.Kind.TheVariants.{QosData};
@@ -41,6 +41,15 @@ pub(crate) fn frame_of<'a>(half: &'a Transmit, open: &Open, index: u16, seq: Seq
     half.window(open.station, open.tid).frame(seq)
 }
 
+/// Returns the More Data bit of a data transmission: that of its exchange. If the exchange ends a service
+/// period, each transmission but the last has it too.
+fn has_more(open: &Open, index: u16) -> bool
+    ensures { result ≡ (open.now.more
+        || (open.now.eosp && not (index + 1 == transmissions_of open.now.sending))) }
+{
+    open.more || (open.eosp && usize::from(index) + 1 != usize::from(open.count()))
+}
+
 /// Returns the EOSP bit of a data transmission: its exchange ends a service period, and it is the last one.
 fn ends_service(open: &Open, index: u16) -> bool
     ensures { result ≡ (open.now.eosp && (index + 1 == transmissions_of open.now.sending)) }
@@ -70,10 +79,10 @@ pub(crate) fn header_of(
         from_ds: true,
         retry: attempts > 0,
         power: false,
-        more: open.more,
+        more: has_more(open, index),
         duration: duration_of(open.plain),
         a1: addresses.of(open.station),
-        a2: addresses.bss(open.station),
+        a2: addresses.bss(half.bss(open.station)),
         a3: frame_of(half, open, index, seq).source(),
         seq,
         tid: open.tid,

@@ -1,4 +1,4 @@
-//! What a caller passes to a path.
+//! The jobs that a caller passes to a path.
 
 ghost use Rattle.std.specs.Prelude.{◌≡◌, ℕ, ◌+◌, ◌≤◌};
 ghost use Rattle.wf_frame.specs.Frames.{FrameValue, most_attempts};

@@ -6,10 +6,10 @@
 //!
 //! `sent`, `frame_id`, `frame_tag`, `header` and `mpdu` describe the transmissions of an open exchange, as
 //! values and as octets (IEEE 802.11-2012, 8.2.4, 8.3.1.8, 8.3.2.1; specs/Transmissions). `done_bytes` reads
-//! a BlockAck (8.3.1.9), and `tim` writes the TIM element for sleeping stations (8.4.2.7), `tim_of` that of
-//! one BSS. `accept_group`, `group_frame` and `group_header` are for group frames, and `beacon` describes the
-//! latest beacon (10.2.1.4). A new path has placeholder addresses, which `set_base`, `set_address`, `set_bss`
-//! and `set_aid` replace. Only `new` allocates memory.
+//! a BlockAck (8.3.1.9), and `tim` writes the TIM element of a BSS for its sleeping stations (8.4.2.7).
+//! `accept_group`, `group_frame` and `group_header` are for the group frames of a BSS, and `beacon` describes
+//! its latest beacon (10.2.1.4). A new path has placeholder addresses, which `set_base`, `set_address`,
+//! `set_bss_address` and `set_aid` replace. Only `new` allocates memory.
 //!
 //! By the invariant of `Path` its transmit half represents an unheard world of a run, so each clause that
 //! holds for every such world says something.

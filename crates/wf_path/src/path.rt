@@ -25,7 +25,7 @@ use wf_send_parts::stations::Tally;
 
 /// The transmit path. A contract sees its transmit half, and says what a call makes of each world of a run
 /// that the half represents (`wf_send_half_model`); there is always one. A contract also sees the addresses,
-/// which only `set_base`, `set_address`, `set_bss` and `set_aid` change. Only `new` allocates memory.
+/// which only `set_base`, `set_address`, `set_bss_address` and `set_aid` change. Only `new` allocates memory.
 pub struct Path {
     pub(crate) half: Transmit,
     pub(crate) addresses: AddressBook,

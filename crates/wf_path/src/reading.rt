@@ -1,4 +1,4 @@
-//! What an open exchange sends, without its octets.
+//! The transmissions of an open exchange, without their octets.
 
 ghost use Rattle.std.specs.Prelude.{◌≡◌, ◌<◌, ◌==◌, ℕ, [], find, option_map};
 ghost use Rattle.wf_frame.specs.Frames.{FrameValue};

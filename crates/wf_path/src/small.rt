@@ -1,11 +1,12 @@
 //! Whether the counts of a path are small enough for its calls.
 
-ghost use Rattle.std.specs.Prelude.{◌≡◌, ◌≤◌, ℕ, ◌+◌, ◌*◌, ◌^◌, true};
+ghost use Rattle.std.specs.Prelude.{◌≡◌, ◌<◌, ◌≤◌, ℕ, ◌+◌, ◌*◌, ◌^◌, true};
+ghost use Rattle.wf_def_world.specs.Group.{bss_count};
 ghost use Rattle.wf_def_lists.specs.Bounds.{greatest_tick};
 ghost use Rattle.wf_frame.specs.declared.classes.Class.{Class as ClassName};
 ghost use Rattle.wf_send_half.specs.Half.{IsLive};
 ghost use Rattle.wf_send_parts.specs.Group.{HasGroupBelow};
-ghost use Rattle.wf_send_half_model.specs.Half.{TransmitValue};
+ghost use Rattle.wf_send_half_model.specs.Half.{TransmitValue, group_in};
 ghost use Rattle.wf_path.specs.Paths.{HasCountsBelow, IsSmall};
 ghost use Rattle.wf_path.specs.Small.{IsSmallIn};
 
@@ -15,10 +16,10 @@ use wf_send_parts::group::GROUP_AIR_LIMIT;
 
 impl Path {
     /// Returns whether the clock, the counts of exchanges and of accepted frames, the airtime of each live
-    /// station in each class, and the counts of group frames are below 2^62, as `call`, `accept_group`,
-    /// `done_bits` and `done_bytes` require. A driver need not ask before each call: if all of them are below
-    /// a number, they are below this number plus 10,000,000 after a call (clause `rises`). So they stay small
-    /// for the first 2^38 calls (`first_calls_law`).
+    /// station in each class, and the counts of group frames of each BSS are below 2^62, as `call`,
+    /// `accept_group`, `done_bits` and `done_bytes` require. A driver need not ask before each call: if all
+    /// of them are below a number, they are below this number plus 10,000,000 after a call (clause `rises`).
+    /// So they stay small for the first 2^38 calls (`first_calls_law`).
     pub fn has_small_counts(&self) -> bool
         ensures small { result ≡ true → IsSmall self.now.half }
         ensures large { IsSmall self.now.half → result ≡ true }
@@ -26,16 +27,31 @@ impl Path {
         self.now() < COUNT_LIMIT
             && self.exchanges() < COUNT_LIMIT
             && self.tally().accepted < COUNT_LIMIT
-            && self.has_small_group()
+            && self.has_small_groups()
             && self.has_small_sums()
     }
 
-    // Returns whether the counts of group frames are small.
-    fn has_small_group(&self) -> bool
-        ensures small { result ≡ true → HasGroupBelow (2 ^ 62) self.now.half.group }
-        ensures large { HasGroupBelow (2 ^ 62) self.now.half.group → result ≡ true }
+    // Returns whether the counts of group frames of each BSS are small.
+    fn has_small_groups(&self) -> bool
+        ensures small { result ≡ true → (b : ℕ) → HasGroupBelow (2 ^ 62) (group_in self.now.half b) }
+        ensures large { ((b : ℕ) → HasGroupBelow (2 ^ 62) (group_in self.now.half b)) → result ≡ true }
     {
-        let counts = self.group_counts();
+        let _ = &self.half;
+        for bss in 0..self.bss_count() {
+            if !self.has_small_group(bss as u8) {
+                return false;
+            }
+        }
+        true
+    }
+
+    // Returns whether the counts of group frames of a BSS are small.
+    fn has_small_group(&self, bss: u8) -> bool
+        requires { bss < bss_count self.now.half.config.bsses }
+        ensures small { result ≡ true → HasGroupBelow (2 ^ 62) (group_in self.now.half bss) }
+        ensures large { HasGroupBelow (2 ^ 62) (group_in self.now.half bss) → result ≡ true }
+    {
+        let counts = self.group_counts(bss);
         counts.accepted < COUNT_LIMIT
             && counts.numbers < COUNT_LIMIT
             && counts.sent < COUNT_LIMIT / GROUP_AIR_LIMIT

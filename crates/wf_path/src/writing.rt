@@ -60,7 +60,7 @@ pub(crate) fn write_transmission(
         Sending::Request(start) => {
             let bar = Bar {
                 ra: addresses.of(open.station),
-                ta: addresses.bss(open.station),
+                ta: addresses.bss(half.bss(open.station)),
                 duration: DURATION,
                 tid: open.tid,
                 start: *start,

@@ -24,5 +24,6 @@ returns-clause-fault c w bodies h =
     c.read_answer.ensures.fault
     ∙ some_answered c.args.half.now w bodies h c.args.number c.args.octets.now c.args.addresses.now
     c.in-Some.open.now
-    (nat_lt 64 c.size-wide.result) c.in-Some.ensures
+    (nat_lt 64 c.size-wide.result) c.bss-bss.result c.in-Some.ensures
     (ap (nat_lt 64) (c.size-wide.ensures.shown ∙ ap (λ (z : WindowValue). z.size) c.window.ensures))
+    (c.bss-bss.ensures.world w bodies h)

@@ -1,10 +1,10 @@
 -- Proves what `header_of` promises: each field comes from a part of the half that agrees with the world.
-use Rattle.std.proofs.Common.{◌≡◌, refl, sym, ap, ap₂, ◌∙◌, subst, true, ◌&&◌, nat_lt, arith}
+use Rattle.std.proofs.Common.{◌≡◌, refl, sym, ap, ap₂, ◌∙◌, subst, Bool, true, not, ◌&&◌, ◌||◌, nat_lt, arith}
 use Rattle.wf_frame.specs.Frames.{FrameValue}
 use Rattle.wf_send_parts.specs.declared.exchanges.opened.Open.{Open}
 use Rattle.wf_path.specs.Addresses.{address_in, bss_in}
 use Rattle.wf_send_parts.specs.Window.{WindowValue, WindowStandsFor, state_at, holds_parcel}
-use Rattle.wf_def_world.specs.World.{session}
+use Rattle.wf_def_world.specs.World.{station, session}
 use Rattle.wf_path.specs.Transmissions.{duration, is_retried, is_last_frame}
 use Rattle.wf_path.proofs.Flying.{window_stands, is_number, air, last, some_within, some_low, some_held}
 use Rattle.wf_path.proofs.flights.header_of.Goals as goal
@@ -36,17 +36,20 @@ returns-clause-header c w bodies x m f =
     ap (nat_lt 0) (c.attempts-attempts.ensures (session w x.station x.tid) bodies m.number stands
     (is_number c.args.half.now c.args.open.now c.args.index w bodies x m f c.args.seq c.requires.carries))
     in
-    let more = ap (λ (k : Open). k.more) f.same in
+    let last_is = last c.args.half.now c.args.open.now c.args.index w bodies x m f in
+    let more : c.has_more.result ≡ (x.more || (x.eosp && not (is_last_frame x m))) =
+    c.has_more.ensures ∙ ap₂ (λ (k : Open) (b : Bool). k.more || (k.eosp && not b)) f.same last_is in
     let tid = ap (λ (k : Open). k.tid) f.same in
     let recipient = c.of.ensures
     ∙ ap (λ (k : Open). address_in c.args.addresses.now k.station) f.same in
-    let transmitter = c.bss.ensures
-    ∙ ap (λ (k : Open). bss_in c.args.addresses.now k.station) f.same in
+    let transmitter = c.bss-2.ensures
+    ∙ ap (bss_in c.args.addresses.now) (c.bss.ensures.world w bodies f.stands)
+    ∙ ap (λ (k : Open). bss_in c.args.addresses.now (station w k.station).bss) f.same in
     let seq = air c.args.half.now c.args.open.now c.args.index w bodies x m f c.args.seq c.requires.carries in
     let source = c.source.ensures.exact
     ∙ ap (λ (g : FrameValue). g.source) (c.frame_of.ensures w bodies x m f) in
     let lasts = c.duration_of.ensures ∙ ap (λ (k : Open). duration k.plain) f.same in
     let ends : c.ends_service.result ≡ (x.eosp && is_last_frame x m) =
     c.ends_service.ensures ∙ ap₂ ◌&&◌ (ap (λ (k : Open). k.eosp) f.same)
-    (last c.args.half.now c.args.open.now c.args.index w bodies x m f) in
+    last_is in
     cc (retry, more, lasts, tid, recipient, transmitter, seq, source, ends)

@@ -1,4 +1,4 @@
--- Proves what `write_transmission` promises. By cases: the exchange is not open, it has no such transmission,
+-- Proves what `write_transmission` promises. By cases: the exchange is not open, the index is out of range,
 -- or the octets of its data or of its request are written.
 use Rattle.std.proofs.Common.{◌≡◌, ℕ, sym, ap, ◌∙◌, arith, ◌++◌, [], Some, length, take}
 use Rattle.std.specs.Prelude.{slice_get}
@@ -8,6 +8,7 @@ use Rattle.wf_octets.specs.declared.block.frames.Bar.{Bar}
 use Rattle.wf_send_parts.specs.declared.exchanges.opened.Open.{Open}
 use Rattle.wf_send_parts.specs.declared.exchanges.opened.Sending.{Sending}
 use Rattle.wf_send_parts.specs.Exchanges.{number_carried}
+use Rattle.wf_def_world.specs.World.{station}
 use Rattle.wf_path.specs.Transmissions.{bar_of}
 use Rattle.wf_send_half.proofs.Dones.{open_low}
 use Rattle.wf_path.proofs.Flying.{some_flies}
@@ -80,7 +81,7 @@ pub returns-in-Request-clause-fault : goal.returns-in-Request-clause-fault
 returns-in-Request-clause-fault c w bodies h =
     let bar : Bar = record {
       ra = c.of.result;
-      ta = c.bss.result;
+      ta = c.bss-in-Request.result;
       duration = 48;
       tid =
           c.in-Some.open.now.tid;
@@ -94,10 +95,11 @@ returns-in-Request-clause-fault c w bodies h =
     (λ x start same air.
     let recipient : c.of.result ≡ address_in c.args.addresses.now x.station =
     c.of.ensures ∙ ap (λ (k : Open). address_in c.args.addresses.now k.station) same in
-    let transmitter : c.bss.result ≡ bss_in c.args.addresses.now x.station =
-    c.bss.ensures ∙ ap (λ (k : Open). bss_in c.args.addresses.now k.station) same in
+    let transmitter : c.bss-in-Request.result ≡ bss_in c.args.addresses.now (station w x.station).bss =
+    c.bss-in-Request.ensures ∙ ap (bss_in c.args.addresses.now) (c.bss.ensures.world w bodies h)
+    ∙ ap (λ (k : Open). bss_in c.args.addresses.now (station w k.station).bss) same in
     let tid : c.in-Some.open.now.tid ≡ x.tid = ap (λ (k : Open). k.tid) same in
-    let bar_is : bar ≡ bar_of c.args.addresses.now x start = cc (recipient, transmitter, tid, air) in
+    let bar_is : bar ≡ bar_of c.args.addresses.now w x start = cc (recipient, transmitter, tid, air) in
     bar_is)
     c.encode_bar.ensures.octets (length c.args.out.now)
 
@@ -105,7 +107,7 @@ pub returns-in-Request-clause-octets : goal.returns-in-Request-clause-octets
 returns-in-Request-clause-octets c =
     let bar : Bar = record {
       ra = c.of.result;
-      ta = c.bss.result;
+      ta = c.bss-in-Request.result;
       duration = 48;
       tid =
           c.in-Some.open.now.tid;
@@ -121,10 +123,11 @@ returns-in-Request-clause-octets c =
     (λ x start same air.
     let recipient : c.of.result ≡ address_in c.args.addresses.now x.station =
     c.of.ensures ∙ ap (λ (k : Open). address_in c.args.addresses.now k.station) same in
-    let transmitter : c.bss.result ≡ bss_in c.args.addresses.now x.station =
-    c.bss.ensures ∙ ap (λ (k : Open). bss_in c.args.addresses.now k.station) same in
+    let transmitter : c.bss-in-Request.result ≡ bss_in c.args.addresses.now (station w x.station).bss =
+    c.bss-in-Request.ensures ∙ ap (bss_in c.args.addresses.now) (c.bss.ensures.world w bodies h)
+    ∙ ap (λ (k : Open). bss_in c.args.addresses.now (station w k.station).bss) same in
     let tid : c.in-Some.open.now.tid ≡ x.tid = ap (λ (k : Open). k.tid) same in
-    let bar_is : bar ≡ bar_of c.args.addresses.now x start = cc (recipient, transmitter, tid, air) in
+    let bar_is : bar ≡ bar_of c.args.addresses.now w x start = cc (recipient, transmitter, tid, air) in
     bar_is)
     c.encode_bar.ensures.octets
     ∙ ap Some (sym is))

@@ -1,26 +1,29 @@
 -- Proves what `AddressBook::new` promises: the loop adds the placeholder address and identifier of each of
 -- the 256 station numbers.
-use Rattle.std.proofs.Common.{◌≡◌, arith, ◌∙◌, sym, ap, ap₂, subst, ℕ, ◌+◌, List, ◌++◌, ◌∷◌, [], map, length, get_or, replicate, Option, None}
+use Rattle.std.proofs.Common.{◌≡◌, arith, ◌∙◌, sym, ap, ap₂, subst, ℕ, ◌+◌, List, ◌++◌, ◌∷◌, [], map, length, get_or, replicate, None}
 use Rattle.std.specs.List.{range_with_len}
-use Rattle.std.proofs.lemmas.List.{replicate_more, length-replicate}
 use Rattle.std.proofs.lemmas.List.FromFn.{map-range_with_len_more, length-map-range_with_len, get_or-map-range_with_len}
 use Rattle.wf_octets.specs.Addresses.{address_of_station}
-use Rattle.wf_path.specs.Addresses.{Addresses, made_up, made_up_aids, aid_of_station, IsAid}
+use Rattle.wf_path.specs.Addresses.{Addresses, made_up, made_up_aids, aid_of_station, bss_numbers, IsAid}
 use Rattle.wf_path.proofs.addresses.AddressBook.new.Goals as goal
 
-book_of : List ℕ → List (List ℕ) → List (Option (List ℕ)) → List ℕ → Addresses
-book_of base stations bsses aids = record { base = base; stations = stations; bsses = bsses; aids = aids }
+book_of : List ℕ → List (List ℕ) → List ℕ → Addresses
+book_of base stations aids = record {
+  base = base;
+  stations = stations;
+  bsses = replicate bss_numbers None;
+  aids = aids;
+}
 
 pub invariant_of-result : goal.invariant_of-result
 invariant_of-result c =
     let all : c.loop-station.station ≡ 256 = omega arith in (
       ap length c.loop-station.invariant.0
           ∙ length-map-range_with_len address_of_station 0 c.loop-station.station ∙ all,
-      ap length c.loop-station.invariant.1 ∙ length-replicate c.loop-station.station None ∙ all,
       record {
-        all = ap length c.loop-station.invariant.2
+        all = ap length c.loop-station.invariant.1
             ∙ length-map-range_with_len aid_of_station 0 c.loop-station.station ∙ all;
-        each = λ s low. subst IsAid (sym (ap (λ (l : List ℕ). get_or l s (s + 1)) c.loop-station.invariant.2
+        each = λ s low. subst IsAid (sym (ap (λ (l : List ℕ). get_or l s (s + 1)) c.loop-station.invariant.1
             ∙ get_or-map-range_with_len aid_of_station 0 c.loop-station.station s s (s + 1)
             (omega (arith, low, all)) (omega arith))) (omega arith, omega (arith, low));
       },
@@ -34,10 +37,7 @@ loop-station-preserved c = (
       ∙ sym (map-range_with_len_more address_of_station 0 c.loop-station.station c.loop-station.station
       (omega arith)),
   c.in_ok-push-2.ensures.items
-      ∙ ap (λ (xs : List (Option (List ℕ))). xs ++ None ∷ []) c.loop-station.invariant.1
-      ∙ replicate_more c.loop-station.station None,
-  c.in_ok-push-3.ensures.items
-      ∙ ap (λ (xs : List ℕ). xs ++ (c.loop-station.station + 1) ∷ []) c.loop-station.invariant.2
+      ∙ ap (λ (xs : List ℕ). xs ++ (c.loop-station.station + 1) ∷ []) c.loop-station.invariant.1
       ∙ sym (map-range_with_len_more aid_of_station 0 c.loop-station.station c.loop-station.station
       (omega arith)),
 )
@@ -46,9 +46,7 @@ pub returns : goal.returns
 unfolding made_up made_up_aids book_of
 returns c =
     let all : c.loop-station.station ≡ 256 = omega arith in
-    ap₂ (λ (b : List ℕ) (s : List (List ℕ)). book_of b s c.loop-station.bsses.items c.loop-station.aids.items)
-    c.base_address.ensures
+    ap₂ (λ (b : List ℕ) (s : List (List ℕ)). book_of b s c.loop-station.aids.items) c.base_address.ensures
     (c.loop-station.invariant.0 ∙ ap (λ (n : ℕ). map address_of_station (range_with_len 0 n)) all)
-    ∙ ap₂ (book_of made_up.base made_up.stations)
-    (c.loop-station.invariant.1 ∙ ap (λ (n : ℕ). replicate n None) all)
-    (c.loop-station.invariant.2 ∙ ap (λ (n : ℕ). map aid_of_station (range_with_len 0 n)) all)
+    ∙ ap (book_of made_up.base made_up.stations)
+    (c.loop-station.invariant.1 ∙ ap (λ (n : ℕ). map aid_of_station (range_with_len 0 n)) all)

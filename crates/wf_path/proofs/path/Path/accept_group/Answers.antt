@@ -1,5 +1,6 @@
 -- Proves that no count rises by much when `Path::accept_group` accepts a frame.
 use Rattle.std.proofs.Common.{subst}
+use Rattle.wf_frame.specs.Calls.{in_bss}
 use Rattle.wf_frame.specs.declared.notes.Ask.TheVariants.{Group}
 use Rattle.wf_frame.specs.declared.notes.GroupAsk.TheVariants.{Accept}
 use Rattle.wf_frame.specs.declared.notes.GroupReply.TheVariants.{Queued}
@@ -16,6 +17,7 @@ pub returns-clause-rises : goal.returns-clause-rises
 returns-clause-rises c =
     let h = c.self.invariant in
     subst (λ (z : TransmitValue). RiseLittle z c.accept_group.new.self) (half_is c.self.view_is)
-    (rises_by c.self.inside.half c.accept_group.new.self h h.bodies (Asked (Group (Accept c.args.len)))
+    (rises_by c.self.inside.half c.accept_group.new.self h h.bodies
+    (Asked (Group (in_bss c.args.bss (Accept c.args.len))))
     (reply_of_result (λ id. reply.Group (Queued id)) c.accept_group.result)
     (c.accept_group.ensures.meets h.world h.bodies h.stands))

@@ -119,6 +119,12 @@ returns-in-Group c =
     subst (λ (ask : PathAsk). IsAnsweredBriefly c.args.self.now (as_ask ask) c.group.new.self c.group.result)
     (sym c.in-Group.is) c.group.ensures
 
+pub returns-in-Bss : goal.returns-in-Bss
+returns-in-Bss c =
+    subst (λ (ask : PathAsk). IsAnsweredBriefly c.args.self.now (as_ask ask) c.set_bss.new.self
+    c.set_bss.result)
+    (sym c.in-Bss.is) c.set_bss.ensures
+
 pub returns-in-Service : goal.returns-in-Service
 returns-in-Service c =
     subst (λ (ask : PathAsk). IsAnsweredBriefly c.args.self.now (as_ask ask) c.service.new.self

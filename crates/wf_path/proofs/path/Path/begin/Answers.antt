@@ -10,12 +10,14 @@ use Rattle.wf_path.proofs.path.Path.begin.Goals.{in-Ok, in-Err}
 
 pub returns : goal.returns
 returns c = elim c.match-begin.branch [
-  | in-Ok w ↦ answered_briefly c.self.inside.half c.self.invariant (Begin c.args.station c.args.tid c.args.window)
+  | in-Ok w ↦ answered_briefly c.self.inside.half c.self.invariant
+      (Begin c.args.station c.args.tid c.args.window)
       reply.Begun c.begin.new.self w.in-Ok.ensures.meets c.begin.ensures.unheard c.self.inside.addresses
       c.args.self.now c.self.view_is c.match-begin.result
       (λ pairs ids. ap (λ (b : Brief). reply_with b pairs ids) w.result-is) (λ _ _. refl) (λ _. refl)
       (λ e. absurd (cc e)) tt
-  | in-Err w ↦ answered_briefly c.self.inside.half c.self.invariant (Begin c.args.station c.args.tid c.args.window)
+  | in-Err w ↦ answered_briefly c.self.inside.half c.self.invariant
+      (Begin c.args.station c.args.tid c.args.window)
       (reply.Refused w.in-Err.reason) c.begin.new.self w.in-Err.ensures.meets c.begin.ensures.unheard
       c.self.inside.addresses c.args.self.now c.self.view_is c.match-begin.result
       (λ pairs ids. ap (λ (b : Brief). reply_with b pairs ids) w.result-is) (λ _ _. refl) (λ _. refl)

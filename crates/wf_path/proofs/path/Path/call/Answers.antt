@@ -1,13 +1,19 @@
 -- Proves what `Path::call` promises from the clauses of the half's calls. By cases of the job: a frame, a
 -- pull, a call whose answer has no lists, or a reap.
 use Rattle.std.proofs.Common.{◌≡◌, ◌∙◌, ap, sym, subst, rules}
-use Rattle.wf_path.specs.declared.job.Job.TheVariants.{Call}
+use Rattle.wf_frame.specs.Answers.{reply_of, reply_with}
+use Rattle.wf_frame.specs.declared.notes.ReplyNote.{ReplyNote}
+use Rattle.wf_frame.specs.declared.notes.ReplyNote.TheVariants.{Accepted, Refused}
+use Rattle.wf_send_half_model.specs.Standing.{Meets}
+use Rattle.wf_send_half_model.specs.Half.{group_in}
+use Rattle.wf_path.specs.declared.job.Job.{Job}
+use Rattle.wf_path.specs.declared.job.Job.TheVariants.{Give, Call}
 use Rattle.wf_frame.specs.declared.notes.Ask.TheVariants.{Pull, Reap}
-use Rattle.wf_path.specs.Jobs.{as_ask, job_of}
+use Rattle.wf_path.specs.Jobs.{as_ask, job_of, note_of, bss_asked, bodies_after, with_released}
 use Rattle.wf_path.specs.Group.{FliesAsSaid}
 use Rattle.wf_path.specs.Paths.{IsAnswered, RiseLittle}
 use Rattle.wf_path.proofs.CallAnswers.{refused_so}
-use Rattle.wf_path.proofs.Given.{accepted_rises, reaped_meets, reaped_rises, reaped_back, reaped_refused}
+use Rattle.wf_path.proofs.Given.{accepted_meets, accepted_rises, refused_meets, reaped_meets, reaped_rises, reaped_back, reaped_refused}
 use Rattle.wf_path.proofs.GroupFlights.{reaped_flies}
 use Rattle.wf_path.proofs.Pulls.{pull_answered}
 use Rattle.wf_path.proofs.Jobs.{none_back, asked_meets, unheard_after}
@@ -28,7 +34,10 @@ returns-in-Call c =
       refused = answered.refused c.clear.new.self;
       pending = answered.pending c.clear.new.self;
       unheard = unheard_after c.args.self.now.half c.args.job;
-      group_flight = answered.flight c.clear.new.self;
+      group_flight = subst (λ (j : Job). FliesAsSaid
+          (group_in c.ask-answer.new.self.half (bss_asked (note_of j)))
+          (reply_with c.ask-answer.result c.args.answer.now.pairs c.clear.new.self))
+          (sym (ap job_of c.in-Call.is)) (answered.flight c.clear.new.self);
       addresses = answered.addresses;
       path = answered.path;
       rises = answered.rises;
@@ -56,7 +65,10 @@ returns-in-Pull c =
       refused = answered.refused c.args.answer.now.ids;
       pending = answered.pending c.args.answer.now.ids;
       unheard = unheard_after c.args.self.now.half c.args.job;
-      group_flight = answered.flight c.args.answer.now.ids;
+      group_flight = subst (λ (j : Job). FliesAsSaid
+          (group_in c.pull-answer.new.self (bss_asked (note_of j)))
+          (reply_with c.pull-answer.result c.pull-answer.new.pairs c.args.answer.now.ids))
+          (sym is) (answered.flight c.args.answer.now.ids);
       addresses = answered.addresses;
       path = answered.path;
       rises = answered.rises;
@@ -89,9 +101,11 @@ returns-in-Reap c =
       refused = λ is. nothing_left (refused_so _ is);
       pending = λ on is. nothing_left is;
       unheard = unheard_after c.args.self.now.half c.args.job;
-      group_flight = subst (FliesAsSaid c.reap-reaped.new.self.group)
+      group_flight = subst (FliesAsSaid
+          (group_in c.reap-reaped.new.self (bss_asked (note_of (job_of c.args.job)))))
           (sym (c.reaped_brief-answer.ensures c.args.answer.now.pairs c.args.answer.now.ids))
-          (reaped_flies c.reap-reaped.new.self.group c.reap-reaped.result);
+          (reaped_flies (group_in c.reap-reaped.new.self (bss_asked (note_of (job_of c.args.job))))
+          c.reap-reaped.result);
       addresses = addresses_are c.self-in-Reap.view_is;
       path = c.reap-reaped.ensures.unheard;
       rises = reaped_rises c.self-in-Reap.inside.half c.self-in-Reap.invariant
@@ -102,6 +116,27 @@ returns-in-Reap c =
           c.args.answer.now.pairs
           c.args.answer.now.ids;
     }
+
+pub returns-after-enqueue-clause-meets : goal.returns-after-enqueue-clause-meets
+returns-after-enqueue-clause-meets c w bodies h may =
+    let job : Job = job_of c.args.job in
+    let is : job ≡ Give c.in-Give.parcel = ap job_of c.in-Give.is in
+    elim c.match-enqueue.branch [
+      | in-Ok e ↦ (let said : reply_of c.match-enqueue.answer ≡ Accepted e.in-Ok.field-0.id e.in-Ok.field-0.dropped =
+          ap reply_of e.answer-is in
+          subst (λ (r : ReplyNote). Meets w (bodies_after c.args.self.now.half w job r bodies) (note_of job)
+          c.enqueue.new.self (with_released w job r)) (sym said)
+          (accepted_meets c.self.inside.half c.self.invariant c.enqueue.new.self c.self.inside.addresses
+          c.args.self.now c.self.view_is job c.in-Give.parcel is e.in-Ok.field-0.id e.in-Ok.field-0.dropped
+          e.in-Ok.ensures.meets w bodies h may))
+      | in-Err e ↦ (let said : reply_of c.match-enqueue.answer ≡ Refused e.in-Err.reason =
+          ap reply_of e.answer-is in
+          subst (λ (r : ReplyNote). Meets w (bodies_after c.args.self.now.half w job r bodies) (note_of job)
+          c.enqueue.new.self (with_released w job r)) (sym said)
+          (refused_meets c.self.inside.half c.self.invariant c.enqueue.new.self c.self.inside.addresses
+          c.args.self.now c.self.view_is job c.in-Give.parcel is e.in-Err.reason
+          e.in-Err.ensures.refuses w bodies h may))
+    ]
 
 pub returns-after-enqueue-clause-unheard : goal.returns-after-enqueue-clause-unheard
 returns-after-enqueue-clause-unheard c = unheard_after c.args.self.now.half c.args.job

@@ -1,5 +1,5 @@
 -- Proves what `Path::done_each` promises: the end is refused as checked, or it is the marks and then the end
--- by the BlockAck that shows what was acknowledged.
+-- by the BlockAck that shows the acknowledged numbers.
 use Rattle.std.proofs.Common.{sym, ◌^◌}
 use Rattle.wf_path.proofs.Ending.{counts_stay, few_outcomes, is_ended_each, is_refused_each}
 use Rattle.wf_path.proofs.path.Path.done_each.Goals as goal

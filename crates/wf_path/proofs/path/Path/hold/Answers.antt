@@ -11,7 +11,8 @@ use Rattle.wf_path.proofs.path.Path.hold.Goals.{in-Ok, in-Err}
 pub returns : goal.returns
 returns c = elim c.match-hold.branch [
   | in-Ok w ↦ answered_briefly c.self.inside.half c.self.invariant (Hold c.args.station c.args.tid)
-      (reply.Held w.in-Ok.start) c.hold.new.self w.in-Ok.ensures.meets c.hold.ensures.unheard c.self.inside.addresses
+      (reply.Held w.in-Ok.start) c.hold.new.self w.in-Ok.ensures.meets c.hold.ensures.unheard
+      c.self.inside.addresses
       c.args.self.now c.self.view_is c.match-hold.result
       (λ pairs ids. ap (λ (b : Brief). reply_with b pairs ids) w.result-is) (λ _ _. refl) (λ _. refl)
       (λ e. absurd (cc e)) tt

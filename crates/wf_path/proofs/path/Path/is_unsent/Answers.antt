@@ -1,4 +1,4 @@
--- Proves what `Path::is_unsent` promises. By cases: the exchange is not open, or its marks are those of the
+-- Proves what `Path::is_unsent` promises. By cases: the exchange is not open, or its marks equal those of the
 -- world's exchange.
 use Rattle.std.proofs.Common.{◌∙◌}
 use Rattle.wf_path.proofs.Inside.{stands_inside}

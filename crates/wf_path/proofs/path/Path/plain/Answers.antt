@@ -10,14 +10,14 @@ use Rattle.wf_path.proofs.path.Path.plain.Goals.{in-Ok, in-Err}
 
 pub returns : goal.returns
 returns c = elim c.match-plain.branch [
-  | in-Ok w ↦ answered_briefly c.self.inside.half c.self.invariant (Plain c.args.station c.args.start c.args.exponent
-      c.args.weight)
+  | in-Ok w ↦ answered_briefly c.self.inside.half c.self.invariant
+      (Plain c.args.station c.args.start c.args.exponent c.args.weight)
       reply.Joined c.plain.new.self w.in-Ok.ensures.meets c.plain.ensures.unheard c.self.inside.addresses
       c.args.self.now c.self.view_is c.match-plain.result
       (λ pairs ids. ap (λ (b : Brief). reply_with b pairs ids) w.result-is) (λ _ _. refl) (λ _. refl)
       (λ e. absurd (cc e)) tt
-  | in-Err w ↦ answered_briefly c.self.inside.half c.self.invariant (Plain c.args.station c.args.start c.args.exponent
-      c.args.weight)
+  | in-Err w ↦ answered_briefly c.self.inside.half c.self.invariant
+      (Plain c.args.station c.args.start c.args.exponent c.args.weight)
       (reply.Refused w.in-Err.reason) c.plain.new.self w.in-Err.ensures.meets c.plain.ensures.unheard
       c.self.inside.addresses c.args.self.now c.self.view_is c.match-plain.result
       (λ pairs ids. ap (λ (b : Brief). reply_with b pairs ids) w.result-is) (λ _ _. refl) (λ _. refl)
