@@ -226,6 +226,7 @@ reaped_body v w bodies job answered back stands told given id fate is =
     of (Call (ask.Cease s t)) e = tt
     of (Call (ask.Group asked)) e = tt
     of (Call (ask.Service asked)) e = tt
+    of (Call (ask.Bss s b)) e = tt
 
 -- an id has a body exactly if its frame is inside
 pub ids_inside : (v : TransmitValue) (w : World) (bodies : ℕ → FrameValue) → StandsFor v w bodies → (id : ℕ) →

@@ -522,6 +522,7 @@ ask_untold (path_ask.Hold s t) no_newcomer no_flush no_begin no_cease = tt
 ask_untold (path_ask.Free s t) no_newcomer no_flush no_begin no_cease = tt
 ask_untold (path_ask.Group ask) no_newcomer no_flush no_begin no_cease = tt
 ask_untold (path_ask.Service ask) no_newcomer no_flush no_begin no_cease = tt
+ask_untold (path_ask.Bss s b) no_newcomer no_flush no_begin no_cease = tt
 
 -- such a call may be made in any world, except an Unsent
 pub ask_may : (ask : PathAsk) → ((e i : ℕ) → ask ≡ path_ask.Unsent e i → ⊥) → (w : World) →
@@ -549,6 +550,7 @@ ask_may (path_ask.Free s t) other w = tt
 ask_may (path_ask.Cease s t) other w = tt
 ask_may (path_ask.Group ask) other w = tt
 ask_may (path_ask.Service ask) other w = tt
+ask_may (path_ask.Bss s b) other w = tt
 
 pub job_may : (job : PathJob) → ((ask : PathAsk) → job ≡ path_job.Call ask → ⊥) → (w : World) →
     MayCall w (job_of job)
@@ -591,6 +593,7 @@ not_received (path_job.Call (path_ask.Free s t)) = refl
 not_received (path_job.Call (path_ask.Cease s t)) = refl
 not_received (path_job.Call (path_ask.Group ask)) = refl
 not_received (path_job.Call (path_ask.Service ask)) = refl
+not_received (path_job.Call (path_ask.Bss s b)) = refl
 
 -- for a call of the path alone, the reply says whether the path is unchanged
 pub path_kept_by : (job : PathJob) (answered : ReplyNote) →

@@ -484,7 +484,7 @@ module _ (v : EngineValue) (w : World) (bodies : ℕ → FrameValue) (e : ℕ) (
       (subst (λ (k : Option (ℕ × List ℕ)). PathEnds v.half e k air after b)
       (is ∙ ap (λ (c : Bool). heard_by v.half m c heard) plain) ends))
 
--- the same for an exchange with a mark, of which the path tells what it sends
+-- the same for an exchange with a mark, whose transmissions the path returns
 pub done_met : (v : EngineValue) (w : World) (bodies : ℕ → FrameValue) (e : ℕ) (heard : Bool)
     (air : Option ℕ) → EngineIsIn v w bodies → (sent : Sent) → option_map sent_of (exchange w e) ≡ Some sent →
     (kept : Option (ℕ × List ℕ)) → IfSome (mark_in v.marks e) (λ m. (u : World) (frames : ℕ → FrameValue) →

@@ -101,7 +101,7 @@ module _ (w : World) (s t : ℕ) where
   pub not_ceased : (IsCeased (step w (Asked (Cease s t))).reply → ⊥) → IsRefused w (Asked (Cease s t))
   not_ceased other = refused_else w (Asked (Cease s t)) (λ e. other (ceased_reply e))
 
--- a brief whose reply is that of a Cease, with any ids
+-- a brief whose reply belongs to a Cease, with any ids
 pub ceased_brief : (b : Brief) (pairs : List (ℕ × ℕ)) (ids : List ℕ) (w : World) (s t : ℕ) →
     IsCeased (with_released w (Call (Cease s t)) (reply_with b pairs ids)) →
     ((dropped : ℕ) → b ≡ brief.Ceased dropped → ⊥) → ⊥
@@ -132,7 +132,7 @@ module _ (v : EngineValue) (after : TransmitValue) (b : Brief) (pairs : List (�
   ceased_is_live = live_in_half after (step w (Asked (Cease s t))).world bodies s m.stands
       (cease_live w s t ceased_done)
 
-  -- the window of the receive half moved to this start, which passed up these ids, and the TID began anew
+  -- the window of the receive half moved to this start, which passed up these ids, and the TID began again
   pub ceased_meets : (start : ℕ) (up : List ℕ) →
       start ≡ start_on_air (step w (Asked (Cease s t))).world s t →
       up ≡ (buffer_requested start (agreement_of v.peers s t).buffer).up → s < length v.peers →

@@ -130,6 +130,7 @@ module _ (v : TransmitValue) (w : World) (bodies : ℕ → FrameValue) (stands :
   back_is (Call (ask.Poll s)) answered e = refl
   back_is (Call (ask.Rx s c air)) answered e = refl
   back_is (Call (ask.Ampdu s octets)) answered e = refl
+  back_is (Call (ask.Bss s b)) answered e = refl
   back_is (Call (ask.Stop s)) answered e = refl
   back_is (Call (ask.Start s)) answered e = refl
   back_is (Call (ask.Unsent exchange index)) answered e = refl

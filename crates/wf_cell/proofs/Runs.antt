@@ -8,7 +8,7 @@ use Rattle.wf_def_lists.specs.Bounds.{greatest_tick}
 use Rattle.wf_def_lists.specs.Lengths.{greatest_body}
 use Rattle.wf_def_lists.specs.Table.{at}
 use Rattle.wf_def_world.specs.Group.{GroupState, no_group}
-use Rattle.wf_def_world.specs.World.{World, Station, no_station, opening}
+use Rattle.wf_def_world.specs.World.{World, Station, no_station, group_of, opening}
 use Rattle.wf_def_world.specs.Run.{Entry, Past, world_after, world_of}
 use Rattle.wf_def_world.specs.Step.{step}
 use Rattle.wf_def_world.specs.Stretches.{world_at}
@@ -109,13 +109,14 @@ record HasFewMore (n : ℕ) (g h : GroupState) : Type 0 where
   number : h.number ≤ g.number + n
   sent : h.sent ≤ g.sent + n
 
-few_more : (h : List Entry) (w : World) → HasFewMore (length h) w.group (world_after w h).group
+few_more : (h : List Entry) (w : World) (b : ℕ) →
+    HasFewMore (length h) (group_of w b) (group_of (world_after w h) b)
 unfolding world_after
-few_more [] w = record { accepted = omega arith; number = omega arith; sent = omega arith }
-few_more (e ∷ h) w =
-    let one : HasOneMore w.group (step w e.1).world.group = one_step_more w e.1 in
-    let rest : HasFewMore (length h) (step w e.1).world.group (world_after (step w e.1).world h).group =
-    few_more h (step w e.1).world in
+few_more [] w b = record { accepted = omega arith; number = omega arith; sent = omega arith }
+few_more (e ∷ h) w b =
+    let one : HasOneMore (group_of w b) (group_of (step w e.1).world b) = one_step_more w e.1 b in
+    let rest : HasFewMore (length h) (group_of (step w e.1).world b)
+    (group_of (world_after (step w e.1).world h) b) = few_more h (step w e.1).world b in
     record {
       accepted = omega (arith, one.accepted, rest.accepted);
       number = omega (arith, one.number, rest.number);
@@ -129,7 +130,8 @@ small_of v p bodies range s few =
     let w : World = world_of p in
     let sums = sums_of p (laws p.config p.history range) in
     let o = s.parts.others in
-    let more : HasFewMore (length p.history) no_group w.group = few_more p.history (opening p.config) in
+    let more : (b : ℕ) → HasFewMore (length p.history) no_group (group_of w b) =
+    few_more p.history (opening p.config) in
     let of_station : (i : ℕ) (c : Class) (y : Station) → at None w.stations i ≡ Some y →
     IsSum p.config (take (length p.history) p.history) (length p.history) i c (share_in y c) =
     λ i c y there. subst (λ (x : Option Station).
@@ -145,9 +147,14 @@ small_of v p bodies range s few =
       received = λ i c. of_member (λ k. received_in k c < 2 ^ 62) (member v.members i) (at None w.stations i)
           (o.stations.live i)
           (λ k y there is. omega (arith, is.received c, (of_station i c y there).most_received));
-      group = record {
-        accepted = omega (arith, ap (λ (g : GroupState). g.accepted) o.group, more.accepted, few);
-        number = omega (arith, ap (λ (g : GroupState). g.number) o.group, more.number, few);
-        sent = omega (arith, ap (λ (g : GroupState). g.sent) o.group, more.sent, few);
+      group = λ b. record {
+        accepted = omega (
+          arith,
+          ap (λ (g : GroupState). g.accepted) (o.groups.each b),
+          (more b).accepted,
+          few,
+        );
+        number = omega (arith, ap (λ (g : GroupState). g.number) (o.groups.each b), (more b).number, few);
+        sent = omega (arith, ap (λ (g : GroupState). g.sent) (o.groups.each b), (more b).sent, few);
       };
     }

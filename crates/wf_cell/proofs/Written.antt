@@ -78,14 +78,14 @@ data_says w bodies x m low source = record {
   number_is = refl;
 }
 
-bar_says : (x : Exchange) (start : ℕ) → x.tid < 8 →
-    SaysRequest x.station x.tid (start % 4096) (bar_octets plain x start)
-bar_says x start low = record {
-  bar = bar_of plain x start;
+bar_says : (w : World) (x : Exchange) (start : ℕ) → x.tid < 8 →
+    SaysRequest x.station x.tid (start % 4096) (bar_octets plain w x start)
+bar_says w x start low = record {
+  bar = bar_of plain w x start;
   is_for = record {
     layout = record {
       size = refl;
-      head = head_begins (bar_octets plain x start) request narrow_fragment (bar_of plain x start)
+      head = head_begins (bar_octets plain w x start) request narrow_fragment (bar_of plain w x start)
           (omega (arith, low)) refl (two_read (16 * (start % 4096) + narrow_fragment) (omega arith)) refl refl
           refl;
     };
@@ -121,8 +121,8 @@ of_content w bodies x k octets low (Frames mpdus) few sources sent =
     (data_says w bodies z m low (sources m (in_list mpdus k few)))
 of_content w bodies x zero octets low (Request start) few sources sent =
     let z : Exchange = record x { content = Request start } in
-    let same : bar_octets plain z start ≡ octets = cc in
-    subst (SaysRequest x.station x.tid (start % 4096)) same (bar_says z start low)
+    let same : bar_octets plain w z start ≡ octets = cc in
+    subst (SaysRequest x.station x.tid (start % 4096)) same (bar_says w z start low)
 of_content w bodies x (suc k) octets low (Request start) few sources sent = absurd (omega arith)
 
 pub octets_say : (w : World) (bodies : ℕ → FrameValue) (e k : ℕ) (x : Exchange) (octets : List ℕ) →
@@ -210,7 +210,7 @@ module _ (v : TransmitValue) (w : World) (bodies : ℕ → FrameValue) (h : Stan
           (data_short (record x { content = Frames mpdus }) k m
           (ap (λ (c : Content). slice_get (mpdus_of c) k) is ∙ among))
   content_short zero octets (Request start) is sent =
-      let same : bar_octets plain (record x { content = Request start }) start ≡ octets = cc in
+      let same : bar_octets plain w (record x { content = Request start }) start ≡ octets = cc in
       subst (λ (xs : List ℕ). length xs ≤ 2330) same (lit≤ tt)
   content_short (suc k) octets (Request start) is sent = absurd (cc)
 

@@ -18,7 +18,7 @@ use wf_path::{PathAsk, PathJob};
 pub(crate) const PLAIN_WINDOW: u16 = 1;
 
 impl Engine {
-    // Begins the agreement of a TID that is held. The TID begins anew at its receive half.
+    // Begins the agreement of a TID that is held. The TID begins again at its receive half.
     pub(crate) fn begin(&mut self, station: u16, tid: u8, window: u16, answer: &mut Answer)
         requires some { EngineHasWorld self.old }
         requires small { IsSmall self.old.half }
@@ -43,7 +43,7 @@ impl Engine {
     }
 
     // Ends the agreement of a TID. Its receive half passes up the frames that it stores, and the TID begins
-    // anew there.
+    // again there.
     pub(crate) fn cease(&mut self, station: u16, tid: u8, answer: &mut Answer)
         requires some { EngineHasWorld self.old }
         requires small { IsSmall self.old.half }

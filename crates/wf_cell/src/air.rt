@@ -91,7 +91,7 @@ struct Found {
     place: usize,
     // The BlockAck that was heard, if any; of a batch, one that shows exactly the numbers that arrived.
     heard: Option<(Seq12, Bits256)>,
-    // What the exchange sends.
+    // The frames or the request that the exchange sends.
     sent: Sent,
 }
 

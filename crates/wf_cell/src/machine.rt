@@ -50,7 +50,8 @@ impl Machine for Cell {
 
     ghost note = { λ call. note_of call.job };
 
-    ghost right = { λ settings history caller call back. IsRight settings history call.job (reply_of back.answer.value) back.parcel };
+    ghost right = { λ settings history caller call back.
+        IsRight settings history call.job (reply_of back.answer.value) back.parcel };
 
     fn calls_left(&self) -> u64 {
         Cell::calls_left(self)

@@ -112,7 +112,7 @@ impl Peers {
         self.list[usize::from(station)].move_to(tid, start, up);
     }
 
-    /// A TID below 8 of a station's receive half begins anew, with first number `start` and a window of
+    /// A TID below 8 of a station's receive half begins again, with first number `start` and a window of
     /// `size`, 1 to 256. Nothing of it is stored.
     pub(crate) fn renew(&mut self, station: u16, tid: u8, start: Seq12, size: u16)
         requires within { station < length self.old }

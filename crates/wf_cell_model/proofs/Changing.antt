@@ -86,7 +86,7 @@ module _ (peers : List PeerValue) (marks : List Mark) (w v : World) (s t : ℕ) 
       (λ apart. rest (λ _ k. eq_no j t apart k)))
       (λ away. rest (λ k _. eq_no i s away k))
 
-  -- The receive halves represent a world that stays but for one TID, if its station gets the agreement that
+  -- The receive halves represent a world that stays except one TID, if its station gets the agreement that
   -- represents it.
   pub changed_hears : (after : List Mark) → IsLawful w → StaysBut s t w v → v.config ≡ w.config →
       (is_live v s ≡ true → StandsForTid v s t a) → after ≡ map mark_of v.opened →

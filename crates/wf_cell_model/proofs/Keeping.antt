@@ -1,7 +1,7 @@
 -- Proves which calls leave every receive half unchanged.
 use Rattle.std.proofs.Common.{◌≡◌, ◌≢◌, refl, ap, ap₂, sym, ◌∙◌, subst, ℕ, ◌==◌, Bool, true, false, List, [], ◌∷◌, map, Option, Some, None, is_some, if◌then◌else◌, length}
 use Rattle.wf_frame.specs.declared.settings.Config.{Config}
-use Rattle.wf_frame.specs.declared.notes.Ask.TheVariants.{Join, Leave, Rate, Tick, Pull, Arrive, Answer, Done, Sleep, Wake, Poll, Rx, Reap, Ampdu, Stop, Start, Unsent, GiveUp, Flush, Offload, Weight, Plain, Hold, Begin, Free, Cease, Group, Service}
+use Rattle.wf_frame.specs.declared.notes.Ask.TheVariants.{Join, Leave, Rate, Tick, Pull, Arrive, Answer, Done, Sleep, Wake, Poll, Rx, Reap, Ampdu, Stop, Start, Unsent, GiveUp, Flush, Offload, Weight, Plain, Hold, Begin, Free, Cease, Group, Service, Bss}
 use Rattle.wf_frame.specs.declared.notes.Note.{Note}
 use Rattle.wf_frame.specs.declared.notes.Note.TheVariants.{Enqueue, Asked}
 use Rattle.wf_frame.specs.declared.notes.Refusal.{Refusal}
@@ -217,6 +217,7 @@ left_quiet (Asked (Cease s t)) w k = absurd k
 left_quiet (Asked (Group ask)) w k = left_here w _ refl refl
 left_quiet (Asked (Service ask)) w k =
     left_same w _ (same_on_station w (station_served ask) _ (λ x t. refl))
+left_quiet (Asked (Bss s b)) w k = left_same w _ (same_on_station w s _ (λ x t. refl))
 
 -- An idle pull leaves what receivers have, whether it changes the lists or not.
 left_idle : (b : Bool) (w : World) (c : Class) → IsLeft w (if b then w else after_pick w c)

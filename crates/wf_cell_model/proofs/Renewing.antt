@@ -69,7 +69,7 @@ none_flies : (w : World) (s t : ℕ) → IsLawful w → NoneOpen s t w.opened �
     (session w s t).first ≤ n → (slot (session w s t) n).state ≡ State.Flying e → ⊥
 none_flies w s t i none n e from flies = none_sending s t e n w.opened none (i.sent s t refl n e from flies)
 
--- ---- an agreement that begins anew
+-- ---- an agreement that begins again
 
 -- the receiver of a session whose numbers are all below f
 past_all : (y : Session) (r : Receiver) (f : ℕ) → IsAgreed y r → next_number y ≡ f → IsPastAll r f
@@ -100,7 +100,7 @@ renewed_start u s t size mode live =
     ap (λ (z : Side). start_of z.session)
     (side_on u s t (renewed (start_of (session u s t)) size mode) live)
 
--- The receive halves after a call that leads to u, after which the TID begins anew.
+-- The receive halves after a call that leads to u, after which the TID begins again.
 module _ (peers : List PeerValue) (marks : List Mark) (w u : World) (s t size f : ℕ) (mode : Mode)
     (lawful : IsLawful w) (h : Hears peers marks w) (low : s < w.config.stations) (below : t < 8)
     (stays : Stays w u) (live : is_live u s ≡ true) (start : start_of (session u s t) ≡ f)
@@ -297,7 +297,7 @@ unfolding outcome_of
 cease_live w s t fine = listed_live w s (Asked (Cease s t)) fine
     (live_ceased w s t s ∙ ceased_live w s t fine)
 
--- ---- a receive half that moves before it begins anew
+-- ---- a receive half that moves before it begins again
 
 -- the second of two changes of one agreement stays
 renewed_twice : (p : PeerValue) (t : ℕ) (a b : AgreementValue) →

@@ -2,7 +2,7 @@
 -- window, so a BlockAck with 64 or 256 bits has them all.
 use Rattle.std.proofs.Common.{◌≡◌, refl, ap, sym, ◌∙◌, subst, arith, ℕ, ◌+◌, ◌-◌, ◌*◌, ◌%◌, ◌<◌, ◌≤◌, ◌==◌, nat_le, nat_lt, Bool, true, false, not, ◌&&◌, ◌||◌, inl, inr, List, [], ◌∷◌, ◌++◌, map, filter, Option, Some, None, IfSome, option_map, if◌then◌else◌}
 use Rattle.wf_frame.specs.declared.classes.Class.{Class}
-use Rattle.wf_frame.specs.declared.notes.Ask.TheVariants.{Join, Leave, Rate, Tick, Pull, Arrive, Answer, Done, Sleep, Wake, Poll, Rx, Reap, Ampdu, Stop, Start, Unsent, GiveUp, Flush, Offload, Weight, Plain, Hold, Begin, Free, Cease, Group, Service}
+use Rattle.wf_frame.specs.declared.notes.Ask.TheVariants.{Join, Leave, Rate, Tick, Pull, Arrive, Answer, Done, Sleep, Wake, Poll, Rx, Reap, Ampdu, Stop, Start, Unsent, GiveUp, Flush, Offload, Weight, Plain, Hold, Begin, Free, Cease, Group, Service, Bss}
 use Rattle.wf_frame.specs.declared.notes.Limits.{Limits}
 use Rattle.wf_frame.specs.declared.notes.Note.{Note}
 use Rattle.wf_frame.specs.declared.notes.Note.TheVariants.{Enqueue, Asked}
@@ -231,6 +231,7 @@ done_below (Asked (Free s t)) w i h = left_below w _ (left_quiet (Asked (Free s 
 done_below (Asked (Cease s t)) w i h = subst (AllBelow w) (sym (opened_ceased w s t)) h
 done_below (Asked (Group ask)) w i h = left_below w _ (left_quiet (Asked (Group ask)) w tt) h
 done_below (Asked (Service ask)) w i h = left_below w _ (left_quiet (Asked (Service ask)) w tt) h
+done_below (Asked (Bss s b)) w i h = left_below w _ (left_quiet (Asked (Bss s b)) w tt) h
 
 judged_below : (w : World) (note : Note) (o : Option Refusal) → refusal w note ≡ o → IsLawful w →
     AllBelow w w.opened → AllBelow w (step w note).world.opened

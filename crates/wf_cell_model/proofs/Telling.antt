@@ -2,7 +2,7 @@
 -- a reply has.
 use Rattle.std.proofs.Common.{◌≡◌, refl, ap, sym, ◌∙◌, ℕ, nat_le, ◌==◌, not, ◌&&◌, ◌||◌, Bool, true, false, List, [], ◌∷◌, map, find, Option, Some, None, IfSome, is_some, is_none, option_map, if◌then◌else◌, length}
 use Rattle.wf_frame.specs.declared.classes.Class.{Class}
-use Rattle.wf_frame.specs.declared.notes.Ask.TheVariants.{Join, Leave, Rate, Tick, Pull, Arrive, Answer, Done, Sleep, Wake, Poll, Rx, Reap, Ampdu, Stop, Start, Unsent, GiveUp, Flush, Offload, Weight, Plain, Hold, Begin, Free, Cease, Group, Service}
+use Rattle.wf_frame.specs.declared.notes.Ask.TheVariants.{Join, Leave, Rate, Tick, Pull, Arrive, Answer, Done, Sleep, Wake, Poll, Rx, Reap, Ampdu, Stop, Start, Unsent, GiveUp, Flush, Offload, Weight, Plain, Hold, Begin, Free, Cease, Group, Service, Bss}
 use Rattle.wf_frame.specs.declared.notes.Limits.{Limits}
 use Rattle.wf_frame.specs.declared.notes.Note.{Note}
 use Rattle.wf_frame.specs.declared.notes.Note.TheVariants.{Enqueue, Asked}
@@ -228,6 +228,7 @@ never_refused (Asked (Free s t)) w r h = cc h
 never_refused (Asked (Cease s t)) w r h = cc h
 never_refused (Asked (Group ask)) w r h = cc h
 never_refused (Asked (Service ask)) w r h = cc h
+never_refused (Asked (Bss s b)) w r h = cc h
 
 judged_refused : (o : Option Refusal) (w : World) (note : Note) (r : Refusal) →
     (judged_outcome w note o).reply ≡ Refused r → o ≡ Some r

@@ -1,5 +1,5 @@
 -- Defines how the receive half of a station catches up with the window of a TID that has no agreement, and
--- how it begins anew when an agreement begins or ends.
+-- how it begins again when an agreement begins or ends.
 use Rattle.std.specs.Prelude.{ℕ, ◌%◌, List, if◌then◌else◌}
 use Rattle.wf_def_agreement.specs.Session.{start_of}
 use Rattle.wf_def_world.specs.World.{World, session, is_agreed}
@@ -19,7 +19,7 @@ peers_caught_up w s t peers =
     if is_agreed w s t then peers
     else with_peer s (peer_requested t (twelve_bit_start w s t) (peer_of peers s)) peers
 
--- The receive halves after an agreement of TID t of station s began or ended: the TID begins anew at the
+-- The receive halves after an agreement of TID t of station s began or ended: the TID begins again at the
 -- start of its window in w, with this window. Nothing of it is stored.
 abbrev pub peers_renewed : World → ℕ → ℕ → ℕ → List PeerValue → List PeerValue
 peers_renewed w s t size peers =

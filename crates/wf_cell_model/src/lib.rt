@@ -134,7 +134,7 @@ pub fn a_tid_is_flushed()
         (step w (Asked (Flush s t))).world }
 {}
 
-/// An agreement begins: the TID of the receive half begins anew at the start of the window, with this window,
+/// An agreement begins: the TID of the receive half starts again at the window's start, with this window,
 /// which is in its range.
 pub fn an_agreement_begins()
     ensures station { (w : World) (s t window : ℕ) → refusal w (Asked (Begin s t window)) ≡ None →
@@ -149,7 +149,7 @@ pub fn an_agreement_begins()
 {}
 
 /// An agreement ends: the window of the receive half moves to its start after the call, as by a BlockAckReq,
-/// which passes up exactly the ids of the reply. Then the TID begins anew there, with a window of one number.
+/// which passes up exactly the reply's ids. Then the TID starts again there, with a window of one number.
 pub fn an_agreement_ends()
     ensures station { (w : World) (s t : ℕ) → refusal w (Asked (Cease s t)) ≡ None → s < w.config.stations }
     ensures tid { (w : World) (s t : ℕ) → refusal w (Asked (Cease s t)) ≡ None → t < 8 }
