@@ -9,8 +9,8 @@ use wf_io::Line;
 use wf_run::help::Command;
 use wf_trace::{Arg, next_word};
 
-/// The most forms that a command has: those of a trace's 42 calls, of its head and of its end.
-const MOST_FORMS: usize = 44;
+/// The most forms that a command has: those of a trace's 43 calls, of its head and of its end.
+const MOST_FORMS: usize = 45;
 
 /// The most arguments that a form has.
 const MOST_ARGS: usize = 6;
@@ -151,6 +151,7 @@ pub fn name_of(form: &'static [u8], place: usize) -> &'static [u8] {
     match name {
         b"[WEIGHT]" => b"WEIGHT",
         b"[G]" => b"G",
+        b"[B]" => b"B",
         _ => name,
     }
 }
@@ -241,7 +242,7 @@ pub fn say_range(low: u32, high: u32, out: &mut Line) {
 pub fn say_wanted(arg: Arg, out: &mut Line) {
     match arg {
         Arg::Short => say(&[b"0 to 65535"], out),
-        Arg::Octet | Arg::Weight => say(&[b"0 to 255"], out),
+        Arg::Octet | Arg::Weight | Arg::Bss => say(&[b"0 to 255"], out),
         Arg::Long | Arg::Exchange => say(&[b"0 to 4294967295"], out),
         Arg::Length => say(&[b"1 to 2304"], out),
         Arg::Class => say(&[b"bk, be, vi or vo"], out),

@@ -1,14 +1,13 @@
 -- Proves that a beacon and a group frame fit in a packet of a capture.
-use Rattle.std.proofs.Common.{◌≡◌, refl, subst, ℕ, zero, suc, ◌+◌, ◌-◌, ◌*◌, ◌/◌, ◌<◌, ◌≤◌, ◌&&◌, Bool, true, false, List, [], ◌∷◌, length, map, min, arith, length-append, ap}
+use Rattle.std.proofs.Common.{◌≡◌, refl, subst, ℕ, zero, suc, ◌+◌, ◌-◌, ◌*◌, ◌/◌, ◌<◌, ◌≤◌, Bool, true, false, List, [], ◌∷◌, length, map, min, arith, length-append, ap}
 use Rattle.std.specs.Prelude.{filter}
 use Rattle.wf_def_lists.specs.Lengths.{greatest_body}
 use Rattle.wf_def_lists.specs.Table.{count_from, upto}
 use Rattle.wf_def_tim.specs.Tim.{tim_element, last_of, map_octet, with_group_bit}
 use Rattle.wf_octets.specs.GroupLayout.{group_octets}
-use Rattle.wf_def_world.specs.Group.{dtim_period}
-use Rattle.wf_def_world.specs.World.{World, station, is_live, live_stations}
-use Rattle.wf_def_world.specs.Exchanges.{has_more}
-use Rattle.wf_def_world.specs.Text.{beacon_map, with_traffic}
+use Rattle.wf_def_world.specs.Group.{GroupState, dtim_period}
+use Rattle.wf_def_world.specs.World.{World, is_live, live_stations, group_of}
+use Rattle.wf_def_world.specs.Text.{beacon_map, is_awaited, with_traffic}
 use Rattle.wf_report.specs.GroupFrames.{group_body, group_frame, group_header, beacon_head, beacon_frame}
 use Rattle.wf_report.proofs.Sampled.{length_sample}
 
@@ -73,27 +72,28 @@ bit_long true (a ∷ b ∷ c ∷ []) = refl
 bit_long true (a ∷ b ∷ c ∷ d ∷ []) = refl
 bit_long true (a ∷ b ∷ c ∷ d ∷ e ∷ octets) = refl
 
-traffic_below : (w : World) → AreBelow (w.config.stations + 1) (with_traffic w)
-traffic_below w =
+traffic_below : (w : World) (b : ℕ) → AreBelow (w.config.stations + 1) (with_traffic w b)
+traffic_below w b =
     let n : ℕ = w.config.stations in
     let same : 0 + n ≡ n = omega arith in
-    raised_below n (filter (λ s. (station w s).asleep && has_more w s) (live_stations w))
-    (kept_below n (λ s. (station w s).asleep && has_more w s) (live_stations w)
+    raised_below n (filter (is_awaited w b) (live_stations w))
+    (kept_below n (is_awaited w b) (live_stations w)
     (kept_below n (is_live w) (upto n) (subst (λ m. AreBelow m (upto n)) same (counted_below 0 n))))
 
 head_long : (number clock : ℕ) → length (beacon_head number clock) ≡ 48
 head_long number clock = refl
 
-pub beacon_short : (w : World) → w.config.stations ≤ 256 → length (beacon_frame w) ≤ 65535
-beacon_short w few =
-    let element : List ℕ = tim_element w.group.count (dtim_period w.config.period) (with_traffic w) in
+pub beacon_short : (w : World) (b : ℕ) → w.config.stations ≤ 256 → length (beacon_frame w b) ≤ 65535
+beacon_short w b few =
+    let g : GroupState = group_of w b in
+    let element : List ℕ = tim_element g.count (dtim_period w.config.period) (with_traffic w b) in
     omega (
       arith,
-      length-append (beacon_head (w.group.number - 1) w.clock) (beacon_map w (with_traffic w)),
-      head_long (w.group.number - 1) w.clock,
-      bit_long w.group.announced element,
-      element_short w.group.count (dtim_period w.config.period) (w.config.stations + 1) (with_traffic w)
-          (traffic_below w),
+      length-append (beacon_head (g.number - 1) w.clock) (beacon_map w b (with_traffic w b)),
+      head_long (g.number - 1) w.clock,
+      bit_long g.announced element,
+      element_short g.count (dtim_period w.config.period) (w.config.stations + 1) (with_traffic w b)
+          (traffic_below w b),
       few,
     )
 

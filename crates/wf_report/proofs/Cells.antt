@@ -6,9 +6,11 @@ use Rattle.wf_frame.specs.Frames.{FrameValue, new_frame}
 use Rattle.wf_frame.specs.declared.notes.Note.{Note}
 use Rattle.wf_frame.specs.declared.notes.ReplyNote.{ReplyNote}
 use Rattle.wf_frame.specs.declared.settings.Config.{Config}
+use Rattle.wf_def_world.specs.Group.{bss_count}
 use Rattle.wf_def_world.specs.World.{World, exchange, opening}
 use Rattle.wf_def_world.specs.Run.{Entry, Past, by, world_of}
 use Rattle.wf_def_world.specs.Step.{step}
+use Rattle.wf_send_half_model.specs.Half.{TransmitValue}
 use Rattle.wf_send_half_model.specs.Standing.{StandsFor, IsReached}
 use Rattle.wf_path.specs.declared.reading.Sent.{Sent}
 use Rattle.wf_path.specs.Transmissions.{sent_of}
@@ -53,6 +55,13 @@ then_sampled old new job answered s brought stands = record {
 -- The world after one more call.
 pub world_is : (p q : Past) (e : Entry) → q ≡ with_entry e p → world_of q ≡ (step (world_of p) e.1).world
 world_is p q e is = ap world_of is ∙ world_then p.history (opening p.config) e
+
+-- ---- a BSS of the world is one of the half
+
+pub bss_within : (v : TransmitValue) (w : World) (bodies : ℕ → FrameValue) (b : ℕ) → StandsFor v w bodies →
+    b < bss_count w.config.bsses → b < bss_count v.config.bsses
+bss_within v w bodies b stands within =
+    subst (λ (c : Config). b < bss_count c.bsses) (sym stands.parts.others.config) within
 
 -- ---- the TID of an exchange is at most 7
 

@@ -1,6 +1,7 @@
 -- Proves that the packets of a run can be in a capture, so that `frames` lists each of them.
 use Rattle.std.proofs.Common.{◌≡◌, refl, sym, ap, subst, ℕ, ◌+◌, ◌*◌, ◌^◌, ◌<◌, ◌≤◌, Bool, true, false, List, [], ◌∷◌, ◌++◌, length, map, Option, Some, None, lit≤, arith, length-append}
 use Rattle.std.specs.Prelude.{option_and_then}
+use Rattle.std.specs.Option.{option_map_or}
 use Rattle.wf_frame.specs.Settings.{IsInRange}
 use Rattle.wf_frame.specs.declared.notes.GroupReply.{GroupReply}
 use Rattle.wf_frame.specs.declared.notes.GroupReply.TheVariants as answer
@@ -15,7 +16,7 @@ use Rattle.wf_report.specs.ListingLaw.{Sent, AreWritable, IsListed}
 use Rattle.wf_report.proofs.WrittenCaptures.{written_law}
 use Rattle.wf_octets.specs.HeaderLayout.{header_as_octets}
 use Rattle.wf_def_world.specs.Group.{GroupFrame}
-use Rattle.wf_def_world.specs.World.{World, Mpdu, Exchange, Content, Frames, Request, exchange, frame, len_of, opening}
+use Rattle.wf_def_world.specs.World.{World, Mpdu, Exchange, Content, Frames, Request, exchange, frame, group_of, len_of, opening}
 use Rattle.wf_def_world.specs.Run.{Entry, world_after}
 use Rattle.wf_def_world.specs.Step.{step}
 use Rattle.wf_law_runs.specs.Lengths.{HasLengths}
@@ -27,7 +28,7 @@ use Rattle.wf_cell.proofs.Runs.{world_then, time_by, config_after}
 use Rattle.wf_cell.proofs.Written.{header_long}
 use Rattle.wf_report.specs.Captures.{most_calls_timed, sample_of, samples, packets_by, packets_from, packets_in, capture_of}
 use Rattle.wf_report.specs.GroupFrames.{group_frames}
-use Rattle.wf_report.specs.Packets.{frames_sent, frames_by, frames_of_group, block_acks, exchange_answered, packets_at}
+use Rattle.wf_report.specs.Packets.{frames_sent, frames_by, frames_of_group, bss_named, block_acks, exchange_answered, packets_at}
 use Rattle.wf_report.proofs.Sampled.{length_sample}
 use Rattle.wf_report.proofs.Beacons.{beacon_short, group_short}
 
@@ -88,12 +89,18 @@ flying_short : (number : ℕ) (more : Bool) (flying : Option GroupFrame) →
 flying_short number more None = tt
 flying_short number more (Some x) = (group_short number more x.len, tt)
 
-group_frames_short : (w : World) → w.config.stations ≤ 256 → (answered : GroupReply) →
-    AreShort (frames_of_group w answered)
-group_frames_short w few (answer.Queued id) = tt
-group_frames_short w few (answer.Beacon count follows) = (beacon_short w few, tt)
-group_frames_short w few (answer.Send id number air more) = flying_short number more w.group.flying
-group_frames_short w few (answer.Done id) = tt
+group_frames_short : (w : World) (b : ℕ) → w.config.stations ≤ 256 → (answered : GroupReply) →
+    AreShort (frames_of_group w b answered)
+group_frames_short w b few (answer.Queued id) = tt
+group_frames_short w b few (answer.Beacon count follows) = (beacon_short w b few, tt)
+group_frames_short w b few (answer.Send id number air more) =
+    flying_short number more (group_of w b).flying
+group_frames_short w b few (answer.Done id) = tt
+
+frames_asked_short : (w : World) → w.config.stations ≤ 256 → (answered : GroupReply) (asked : Option ℕ) →
+    AreShort (option_map_or (λ b. frames_of_group w b answered) asked [])
+frames_asked_short w few answered None = tt
+frames_asked_short w few answered (Some b) = group_frames_short w b few answered
 
 frames_short : (w : World) → IsStocked greatest_body w → w.config.stations ≤ 256 → (note : Note)
     (answered : ReplyNote) →
@@ -102,7 +109,7 @@ frames_short w all few note (reply.Send e s t air part more eosp) = sent_short w
 frames_short w all few note (reply.Ba start b0 b1 b2 b3 wide) =
     acks_short start b0 b1 b2 b3 wide (option_and_then (exchange w) (exchange_answered note))
 frames_short w all few note reply.Ack = (lit≤ tt, tt)
-frames_short w all few note (reply.Group answered) = group_frames_short w few answered
+frames_short w all few note (reply.Group answered) = frames_asked_short w few answered (bss_named w note)
 frames_short w all few note _ = tt
 
 writable_at : (at : ℕ) (frames : List (List ℕ)) → at < 2 ^ 32 * 1000000 → AreShort frames →

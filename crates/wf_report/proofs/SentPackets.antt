@@ -152,7 +152,7 @@ some_octets w bodies e k f sent = of (exchange w e) refl
     content_long : (x : Exchange) (c : Content) (k : ℕ) →
         slice_get (octets_of_content made_up w bodies x c) k ≡ Some f → 0 < length f
     content_long x (Frames mpdus) k is = data_long x mpdus k is
-    content_long x (Request start) zero is = let same : bar_octets made_up x start ≡ f = cc is in
+    content_long x (Request start) zero is = let same : bar_octets made_up w x start ≡ f = cc is in
         omega (arith, ap length same)
     content_long x (Request start) (suc k) is = absurd (cc is)
 

@@ -1,4 +1,5 @@
--- Proves the lines of the stations, which are written station by station.
+-- Proves the lines of the stations, which are written station by station, and those of the BSSs, which are
+-- written BSS by BSS.
 use Rattle.std.proofs.Common.{◌≡◌, ℕ, zero, suc, ◌+◌, ◌-◌, ◌≤◌, ◌<◌, List, [], ◌∷◌, ◌++◌, Bool, true, false, cond, refl, sym, ◌∙◌, ap, append_assoc, append-nil, arith}
 use Rattle.std.specs.Prelude.{Option, map, filter}
 use Rattle.std.specs.List.{concat}
@@ -6,15 +7,12 @@ use Rattle.std.specs.Io.KnownBytes.{append_known}
 use Rattle.std.proofs.lemmas.List.{map-append}
 use Rattle.wf_def_lists.specs.Table.{upto}
 use Rattle.wf_def_world.specs.World.{World, is_live}
-use Rattle.wf_def_world.specs.Text.{share_lines, group_line, summary}
+use Rattle.wf_def_world.specs.Group.{bss_count}
+use Rattle.wf_def_world.specs.Text.{share_lines, bss_lines}
 use Rattle.wf_io.specs.Fronts.{HoldsFront}
 use Rattle.wf_io.proofs.FrontLaws.{front_first, front_next}
-use Rattle.wf_report.specs.Parts.{lines_of, shares_of, counts_of_summary, map_line, parts_of_summary}
-use Rattle.wf_report.proofs.Rows.{upto-more, kept-more, kept-same, concat-append, filter-append}
-
--- The parts, in order, are the summary.
-pub parts_are : (w : World) (calls : ℕ) → parts_of_summary w calls ≡ summary w calls
-parts_are w calls = sym (append_assoc (counts_of_summary w calls ++ shares_of w) (group_line w) (map_line w))
+use Rattle.wf_report.specs.Parts.{lines_of, shares_of, lines_of_bsses}
+use Rattle.wf_report.proofs.Rows.{upto-more, kept-more, kept-same, concat-append, concat-more, filter-append}
 
 -- The lines of the stations below a number.
 abbrev pub shares_below : World → ℕ → List ℕ
@@ -68,3 +66,37 @@ front_share w n old now new below wrote front =
     rest.1 ∙ ap (λ l. l ++ rest.0) (sym (shares-more w n)) in
     rw whole (front_first old new (shares_below w n ++ lines_of w n) rest.0
     (front_next old now new (shares_below w n) (lines_of w n) wrote front))
+
+-- ---- BSSs
+
+-- The lines of the BSSs below a number.
+abbrev pub bsses_below : World → ℕ → List ℕ
+bsses_below w n = concat (map (bss_lines w) (upto n))
+
+pub bsses-more : (w : World) (n : ℕ) → bsses_below w n ++ bss_lines w n ≡ bsses_below w (n + 1)
+bsses-more w n =
+    concat-more (bss_lines w) (upto n) n [] ∙ ap (λ l. concat (map (bss_lines w) l)) (sym (upto-more n))
+
+bsses-rest : (w : World) (n : ℕ) → n ≤ bss_count w.config.bsses → (more : List ℕ) ×
+    (lines_of_bsses w ≡ bsses_below w n ++ more)
+bsses-rest w n below =
+    let count : ℕ = bss_count w.config.bsses in
+    let rest = upto-rest n (count - n) in
+    let all : n + (count - n) ≡ count = omega arith in
+    let whole : upto count ≡ upto n ++ rest.0 = ap upto (sym all) ∙ rest.1 in (
+      concat (map (bss_lines w) rest.0),
+      ap (λ l. concat (map (bss_lines w) l)) whole
+          ∙ ap concat (map-append (bss_lines w) (upto n) rest.0)
+          ∙ concat-append (map (bss_lines w) (upto n)) (map (bss_lines w) rest.0),
+    )
+
+-- A prefix of a BSS's lines was written.
+pub front_bss : (w : World) (n : ℕ) (old now new : Option (List ℕ)) → n < bss_count w.config.bsses →
+    now ≡ append_known old (bsses_below w n) → HoldsFront now new (bss_lines w n) →
+    HoldsFront old new (lines_of_bsses w)
+front_bss w n old now new below wrote front =
+    let rest = bsses-rest w (n + 1) (omega arith) in
+    let whole : lines_of_bsses w ≡ (bsses_below w n ++ bss_lines w n) ++ rest.0 =
+    rest.1 ∙ ap (λ l. l ++ rest.0) (sym (bsses-more w n)) in
+    rw whole (front_first old new (bsses_below w n ++ bss_lines w n) rest.0
+    (front_next old now new (bsses_below w n) (bss_lines w n) wrote front))

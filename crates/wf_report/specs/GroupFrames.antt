@@ -8,7 +8,7 @@ use Rattle.wf_octets.specs.Fields.{two_octets}
 use Rattle.wf_octets.specs.GroupLayout.{group_octets}
 use Rattle.wf_octets.specs.declared.header.group.GroupHeader.{GroupHeader}
 use Rattle.wf_def_world.specs.Group.{GroupFrame}
-use Rattle.wf_def_world.specs.World.{World}
+use Rattle.wf_def_world.specs.World.{World, group_of}
 use Rattle.wf_def_world.specs.Text.{beacon_map, with_traffic}
 use Rattle.wf_send_parts.specs.Window.{on_air}
 use Rattle.wf_send_half.specs.Group.{everyone}
@@ -56,7 +56,7 @@ beacon_head number clock =
     (0x80 ∷ 0x00 ∷ 0x00 ∷ 0x00 ∷ []) ++ everyone ++ base ++ base ++ two_octets (16 * on_air number)
     ++ little_bytes 8 clock ++ beacon_fields
 
--- The latest beacon of a world, in which no other call followed: the number before the next one, the clock,
--- and the TIM element.
-abbrev pub beacon_frame : World → List ℕ
-beacon_frame w = beacon_head (w.group.number - 1) w.clock ++ beacon_map w (with_traffic w)
+-- The latest beacon of BSS b, if no other call followed: the number before the next one, the clock, and the
+-- TIM element.
+abbrev pub beacon_frame : World → ℕ → List ℕ
+beacon_frame w b = beacon_head ((group_of w b).number - 1) w.clock ++ beacon_map w b (with_traffic w b)

@@ -1,11 +1,13 @@
 -- Defines the parts of a summary.
 use Rattle.std.specs.Prelude.{ℕ, List, [], ◌∷◌, ◌++◌, if◌then◌else◌, codes, decimal, length, map}
 use Rattle.std.specs.List.{concat}
+use Rattle.wf_def_lists.specs.Table.{upto}
+use Rattle.wf_def_world.specs.Group.{bss_count}
 use Rattle.wf_def_world.specs.World.{World, is_live, live_stations}
 use Rattle.wf_frame.specs.Words.{line}
-use Rattle.wf_def_world.specs.Text.{share_lines, tally_words, group_line, beacon_map, with_traffic, hex}
+use Rattle.wf_def_world.specs.Text.{share_lines, tally_words, bss_lines}
 
--- The first four lines of a summary, those of one station, those of all stations, and the last line.
+-- The first four lines of a summary, those of one station, those of all stations, and those of all BSSs.
 abbrev pub counts_of_summary : World → ℕ → List ℕ
 counts_of_summary w calls =
     line (codes "calls" ∷ decimal calls ∷ []) ++ line (codes "now" ∷ decimal w.clock ∷ [])
@@ -18,13 +20,5 @@ lines_of w s = if is_live w s then share_lines w s else []
 abbrev pub shares_of : World → List ℕ
 shares_of w = concat (map (share_lines w) (live_stations w))
 
-abbrev pub map_line : World → List ℕ
-map_line w = line (codes "tim" ∷ concat (map (hex 2) (beacon_map w (with_traffic w))) ∷ [])
-
--- The line of group frames, if there is one, and the last line.
-abbrev pub lines_at_end : World → List ℕ
-lines_at_end w = group_line w ++ map_line w
-
--- The whole summary.
-abbrev pub parts_of_summary : World → ℕ → List ℕ
-parts_of_summary w calls = counts_of_summary w calls ++ shares_of w ++ lines_at_end w
+abbrev pub lines_of_bsses : World → List ℕ
+lines_of_bsses w = concat (map (bss_lines w) (upto (bss_count w.config.bsses)))

@@ -17,7 +17,7 @@ pub record IsSample (f : FrameValue) : Type 0 where
   pub body : f.body ≡ sample_body f.flow (length f.body)
   pub source : f.source ≡ made_up_source
 
--- A transmit half stands for a world, and its frames are such samples.
+-- A transmit half represents a world, and its frames are such samples.
 pub record HasSamples (half : TransmitValue) (w : World) : Type 0 where
   pub bodies : ℕ → FrameValue
   pub stands : StandsFor half w bodies

@@ -1,16 +1,17 @@
 //! Writes the summary of a cell.
 
-ghost use Rattle.std.specs.Prelude.{◌≡◌, ◌+◌, ◌≤◌, ◌==◌, ◌++◌, [], ◌∷◌, codes, decimal, if◌then◌else◌, length, map, OnOk, ◌*◌, true};
+ghost use Rattle.std.specs.Prelude.{◌≡◌, ◌+◌, ◌≤◌, ◌==◌, ◌++◌, [], ◌∷◌, codes, decimal, if◌then◌else◌, length, map, OnOk, ◌*◌, ◌<◌, true};
 ghost use Rattle.std.specs.List.{concat};
 ghost use Rattle.std.specs.Io.KnownBytes.{append_known};
 ghost use Rattle.wf_io.specs.Faults.{CountsFaults};
+ghost use Rattle.wf_def_world.specs.Group.{bss_count};
 ghost use Rattle.wf_def_world.specs.World.{is_live, share};
 ghost use Rattle.wf_def_world.specs.Run.{world_of};
 ghost use Rattle.wf_frame.specs.Words.{line};
-ghost use Rattle.wf_def_world.specs.Text.{summary as summary_of, tally_words, share_line, share_lines, group_line, hex};
+ghost use Rattle.wf_def_world.specs.Text.{summary as summary_of, tally_words, share_line, share_lines, bss_words, group_line, tim_line, bss_lines, hex};
 ghost use Rattle.wf_io.specs.Fronts.{HoldsFront};
 ghost use Rattle.wf_io.specs.Words.{spaced};
-ghost use Rattle.wf_report.specs.Parts.{counts_of_summary, lines_of, shares_of, map_line, lines_at_end, parts_of_summary};
+ghost use Rattle.wf_report.specs.Parts.{counts_of_summary, lines_of, shares_of, lines_of_bsses};
 
 use crate::parts::push_hex;
 use crate::standing;
@@ -159,40 +160,82 @@ fn push_octets(out: &mut Line, octets: &[u8])
     }
 }
 
-// Writes the line of group frames, if the settings allow any.
-fn push_group(cell: &Cell, out: &mut Line)
-    requires { out.old ≡ [] }
-    ensures text { out.new ≡ group_line (world_of cell.now.past) }
-    ensures len { length out.new ≤ 150 }
+// Appends the number of a BSS, if there are several.
+fn push_bss(cell: &Cell, bss: u8, out: &mut Line)
+    requires room { length out.old ≤ 4096 }
+    ensures text { out.new ≡ out.old ++ spaced (bss_words (world_of cell.now.past) bss) }
+    ensures len { length out.new ≤ length out.old + 30 }
+{
+    if standing::bsses(cell) > 1 {
+        out.push_words(&[Word::Text(b"bss"), Word::Number(u64::from(bss))]);
+    }
+}
+
+// Writes the line of the group frames of a BSS, if the settings allow any.
+fn push_group(cell: &Cell, bss: u8, out: &mut Line)
+    requires within { bss < bss_count (world_of cell.now.past).config.bsses }
+    requires empty { out.old ≡ [] }
+    ensures text { out.new ≡ group_line (world_of cell.now.past) bss }
+    ensures len { length out.new ≤ 180 }
 {
     if standing::buffered(cell) == 0 {
         return;
     }
-    let counts = standing::group_counts(cell);
-    out.push_line(
-        b"group",
-        &[
-            Word::Number(counts.accepted),
-            Word::Text(b"sent"),
-            Word::Number(counts.sent),
-            Word::Text(b"held"),
-            Word::Number(u64::from(counts.queued) + u64::from(counts.flying)),
-            Word::Text(b"air"),
-            Word::Number(counts.air),
-        ],
-    );
+    let counts = standing::group_counts(cell, bss);
+    out.push_all(b"group");
+    out.push_words(&[
+        Word::Number(counts.accepted),
+        Word::Text(b"sent"),
+        Word::Number(counts.sent),
+        Word::Text(b"held"),
+        Word::Number(u64::from(counts.queued) + u64::from(counts.flying)),
+        Word::Text(b"air"),
+        Word::Number(counts.air),
+    ]);
+    push_bss(cell, bss, out);
+    out.push(b'\n');
 }
 
-// Appends the line of the TIM element.
-fn push_map(cell: &Cell, out: &mut Line)
-    requires { length out.old ≤ 150 }
-    ensures { out.new ≡ out.old ++ map_line (world_of cell.now.past) }
+// Appends the line of the TIM element of a BSS.
+fn push_map(cell: &Cell, bss: u8, out: &mut Line)
+    requires within { bss < bss_count (world_of cell.now.past).config.bsses }
+    requires room { length out.old ≤ 180 }
+    ensures { out.new ≡ out.old ++ tim_line (world_of cell.now.past) bss }
 {
     let mut octets = [0; 256];
-    let count = standing::traffic(cell, &mut octets);
+    let count = standing::traffic(cell, bss, &mut octets);
     out.push_all(b"tim ");
     push_octets(out, &octets[..count]);
+    push_bss(cell, bss, out);
     out.push(b'\n');
+}
+
+// Writes the lines of a BSS.
+fn write_bss<K: Sink>(cell: &Cell, bss: u8, sink: &mut K) -> Result<(), Failed>
+    requires within { bss < bss_count (world_of cell.now.past).config.bsses }
+    ensures written { OnOk result
+        (K.held sink.new ≡ append_known (K.held sink.old) (bss_lines (world_of cell.now.past) bss)) }
+    ensures front { HoldsFront (K.held sink.old) (K.held sink.new)
+        (bss_lines (world_of cell.now.past) bss) }
+    ensures cause { CountsFaults (K.faults sink.old) (K.faults sink.new) result }
+{
+    let mut lines = Line::new();
+    push_group(cell, bss, &mut lines);
+    push_map(cell, bss, &mut lines);
+    write_line(sink, &lines)
+}
+
+// Writes the lines of all BSSs, by number.
+fn write_bsses<K: Sink>(cell: &Cell, sink: &mut K) -> Result<(), Failed>
+    ensures written { OnOk result
+        (K.held sink.new ≡ append_known (K.held sink.old) (lines_of_bsses (world_of cell.now.past))) }
+    ensures front { HoldsFront (K.held sink.old) (K.held sink.new) (lines_of_bsses (world_of cell.now.past)) }
+    ensures cause { CountsFaults (K.faults sink.old) (K.faults sink.new) result }
+{
+    for bss in 0..standing::bsses(cell) {
+        write_bss(cell, bss, sink)?;
+    }
+    Ok(())
 }
 
 /// Writes the summary of a cell: the state of its world after all calls. After a failed write the sink holds
@@ -206,34 +249,8 @@ pub fn summary<K: Sink>(cell: &Cell, sink: &mut K) -> Result<(), Failed>
     ensures cause { CountsFaults (K.faults sink.old) (K.faults sink.new) result }
 {
     let mut counts = Line::new();
-    let mut last = Line::new();
     push_counts(cell, &mut counts);
-    push_group(cell, &mut last);
-    push_map(cell, &mut last);
-    write_parts(cell, &counts, &last, sink)
-}
-
-// Writes the summary, from its first and last lines.
-fn write_parts<K: Sink>(cell: &Cell, counts: &Line, last: &Line, sink: &mut K) -> Result<(), Failed>
-    requires counts { counts.now ≡ counts_of_summary (world_of cell.now.past) (length cell.now.past.history) }
-    requires last { last.now ≡ lines_at_end (world_of cell.now.past) }
-    ensures written { OnOk result
-        (K.held sink.new ≡ append_known (K.held sink.old)
-        (parts_of_summary (world_of cell.now.past) (length cell.now.past.history))) }
-    ensures front { HoldsFront (K.held sink.old) (K.held sink.new)
-        (parts_of_summary (world_of cell.now.past) (length cell.now.past.history)) }
-    ensures cause { CountsFaults (K.faults sink.old) (K.faults sink.new) result }
-{
-    match write_line(sink, counts) {
-        Ok(()) => {}
-        Err(failed) => return Err(failed),
-    }
-    match write_shares(cell, sink) {
-        Ok(()) => {}
-        Err(failed) => return Err(failed),
-    }
-    match write_line(sink, last) {
-        Ok(()) => Ok(()),
-        Err(failed) => Err(failed),
-    }
+    write_line(sink, &counts)?;
+    write_shares(cell, sink)?;
+    write_bsses(cell, sink)
 }

@@ -1,10 +1,11 @@
 //! The questions that a summary asks a cell. The answers describe the world after the cell's history.
 
-ghost use Rattle.std.specs.Prelude.{◌≡◌, ◌≤◌, length, take, true};
+ghost use Rattle.std.specs.Prelude.{◌≡◌, ◌<◌, ◌≤◌, length, take, true};
 ghost use Rattle.wf_send_parts.specs.Tally.{held_in, counts_of};
 ghost use Rattle.wf_frame.specs.declared.classes.Cause.TheVariants.{Overlimit, Codel, Retries, Left, Flushed, Ended};
 ghost use Rattle.wf_frame.specs.declared.classes.Fate.TheVariants.{Held, Acked, Dropped};
-ghost use Rattle.wf_def_world.specs.World.{accepted_count, is_live, share};
+ghost use Rattle.wf_def_world.specs.Group.{bss_count};
+ghost use Rattle.wf_def_world.specs.World.{accepted_count, group_of, is_live, share};
 ghost use Rattle.wf_def_world.specs.Run.{world_of};
 ghost use Rattle.wf_def_world.specs.Text.{tally as tally_in, beacon_map, with_traffic};
 ghost use Rattle.wf_send_half.specs.Group.{counts_in_state};
@@ -28,11 +29,19 @@ pub fn buffered(cell: &Cell) -> u32
     cell.path().config().buffered
 }
 
-/// Returns the counts of group frames.
-pub fn group_counts(cell: &Cell) -> GroupCounts
-    ensures { result ≡ counts_in_state (world_of cell.now.past).group }
+/// Returns the number of BSSs, 1 to 16.
+pub fn bsses(cell: &Cell) -> u8
+    ensures { result ≡ bss_count (world_of cell.now.past).config.bsses }
 {
-    cell.path().group_counts()
+    cell.path().bss_count() as u8
+}
+
+/// Returns the counts of the group frames of a BSS.
+pub fn group_counts(cell: &Cell, bss: u8) -> GroupCounts
+    requires { bss < bss_count (world_of cell.now.past).config.bsses }
+    ensures { result ≡ counts_in_state (group_of (world_of cell.now.past) bss) }
+{
+    cell.path().group_counts(bss)
 }
 
 /// Returns the number of exchanges that have begun.
@@ -95,12 +104,13 @@ pub fn received(cell: &Cell, station: u16, class: Class) -> u64
     cell.path().received(station, class)
 }
 
-/// Writes the TIM element of the latest beacon (IEEE 802.11-2012, 8.4.2.7) with the stations that have
-/// traffic now, and returns its number of octets.
-pub fn traffic(cell: &Cell, out: &mut [u8; 256]) -> usize
+/// Writes the TIM element of the latest beacon of a BSS (IEEE 802.11-2012, 8.4.2.7) with its stations that
+/// have traffic now, and returns its number of octets.
+pub fn traffic(cell: &Cell, bss: u8, out: &mut [u8; 256]) -> usize
+    requires { bss < bss_count (world_of cell.now.past).config.bsses }
     ensures count { result ≤ length out.new }
     ensures octets { take result out.new
-        ≡ beacon_map (world_of cell.now.past) (with_traffic (world_of cell.now.past)) }
+        ≡ beacon_map (world_of cell.now.past) bss (with_traffic (world_of cell.now.past) bss) }
 {
-    cell.path().tim(out).min(out.len())
+    cell.path().tim(bss, out).min(out.len())
 }

@@ -108,7 +108,7 @@ pub fn run<R: Threads + Wait + Sync, S: Source, K: Sink, T: Turnstile + Sync>(
     carry_out(rt, alloc, command_from(words), source, sink, turnstile)
 }
 
-// Lists a capture. It is a function of its own, so that its stack does not add to that of other commands.
+// Lists a capture. It is a separate function, so that its stack does not add to that of other commands.
 #[inline(never)]
 fn listed<S: Source, K: Sink>(alloc: Global, source: &mut S, sink: &mut K) -> Status
     ensures ends { CommandEnds S.left S.faults K.held K.faults FramesOutcome FramesAnswered

@@ -115,6 +115,8 @@ kind_read kind.Length word v is =
     (λ n low high. (low, high)) is
 kind_read kind.Weight word v is =
     number_kind 0 255 value.Octet (IsOfKind kind.Weight) (number_of word) v (λ n low high. omega arith) is
+kind_read kind.Bss word v is =
+    number_kind 0 255 value.Octet (IsOfKind kind.Bss) (number_of word) v (λ n low high. omega arith) is
 kind_read (kind.Number low high) word v is =
     number_kind low high value.Long (IsOfKind (kind.Number low high)) (number_of word) v
     (λ n below above. (below, above)) is
@@ -127,11 +129,14 @@ kind_read kind.End word v is = word_kind value.End (IsOfKind kind.End) _ v (λ x
 kind_read kind.Air word v is = air_kind (bytes_eq air_word word) v is
 kind_read kind.Frames word v is = frames_kind (bytes_eq frames_word word) v is
 
--- only a weight may be left out
+-- only a weight and a BSS may be left out
 kind_absent : (arg : Arg) (v : Value) → absent_arg arg ≡ Ok v → IsOfKind arg v
 kind_absent kind.Weight v is =
     let same : value.Octet 1 ≡ v = cc in
     let small : 1 < 2 ^ 8 = omega arith in subst (IsOfKind kind.Weight) same small
+kind_absent kind.Bss v is =
+    let same : value.Octet 0 ≡ v = cc in
+    let small : 0 < 2 ^ 8 = omega arith in subst (IsOfKind kind.Bss) same small
 kind_absent arg v is = absurd (cc)
 
 -- the values that were read of a line may be given for its arguments

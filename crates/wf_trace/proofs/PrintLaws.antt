@@ -37,7 +37,7 @@ use Rattle.wf_trace.specs.Lines.{is_printable}
 use Rattle.wf_trace.specs.Words.{words, parts, in_front, is_word, is_number, number_of, in_range}
 use Rattle.wf_frame.specs.declared.calls.Argument.{Argument}
 use Rattle.wf_frame.specs.declared.calls.Argument.TheVariants as argument
-use Rattle.wf_frame.specs.Calls.{arguments_of, args_of, call_word, default_of, format_word, format_named, note_form, form_of_limits, limits, form_of_group, form_of_service, argument_kind, note_values, values_of_group, values_of_service, IsOfKind, AreOfKinds}
+use Rattle.wf_frame.specs.Calls.{arguments_of, args_of, call_word, default_of, format_word, format_named, note_form, form_of_limits, limits, form_of_group, in_bss, form_of_service, argument_kind, note_values, values_of_group, values_of_service, IsOfKind, AreOfKinds}
 use Rattle.wf_frame.proofs.TableLaws.{made_again}
 use Rattle.wf_trace.specs.Grammar.{read_arg, read_args, guard_word, heard_word, long_most}
 use Rattle.wf_trace.specs.Notes.{in_form, read_call}
@@ -209,6 +209,10 @@ octet_told : (n : ℕ) → n < 2 ^ 8 → IsTold arg.Octet (Octet n)
 octet_told n small = let fits : n < 2 ^ 32 = omega arith in
     record { read = octet_read n small; plain = number_plain n fits; short = number_short n fits }
 
+bss_told : (n : ℕ) → n < 2 ^ 8 → IsTold arg.Bss (Octet n)
+bss_told n small = let fits : n < 2 ^ 32 = omega arith in
+    record { read = octet_read n small; plain = number_plain n fits; short = number_short n fits }
+
 weight_told : (n : ℕ) → n < 2 ^ 8 → IsTold arg.Weight (Octet n)
 weight_told n small = let fits : n < 2 ^ 32 = omega arith in
     record { read = octet_read n small; plain = number_plain n fits; short = number_short n fits }
@@ -277,6 +281,7 @@ kind_told arg.Long (Long n) small is = long_told n is
 kind_told arg.Exchange (Exchange n) small is = exchange_told n is
 kind_told arg.Length (Short n) small is = length_told n is
 kind_told arg.Weight (Octet n) small is = weight_told n is
+kind_told arg.Bss (Octet n) small is = bss_told n is
 kind_told arg.Class (TheClass c) small is = class_told c
 kind_told arg.Format (Format f) small is = format_told f
 kind_told arg.Guard (Guard b) small is = guard_told b
@@ -391,12 +396,13 @@ pull_read c None (Some air) = refl
 pull_read c (Some n) (Some air) = refl
 
 -- a call about group frames has a form of its own
-group_read : (ask : GroupAsk) → read_call (note_words (Asked (Group ask)))
-    ≡ in_form (form_of_group ask) (words_of_values (args_of (form_of_group ask)) (values_of_group ask))
-group_read (group.Accept len) = refl
-group_read group.Beacon = refl
-group_read group.Pull = refl
-group_read group.Done = refl
+group_read : (bss : ℕ) (ask : GroupAsk) → read_call (note_words (Asked (Group (in_bss bss ask))))
+    ≡ in_form (form_of_group ask)
+    (words_of_values (args_of (form_of_group ask)) (values_of_group ask ++ Octet bss ∷ []))
+group_read bss (group.Accept len) = refl
+group_read bss group.Beacon = refl
+group_read bss group.Pull = refl
+group_read bss group.Done = refl
 
 -- so has a call about service periods
 service_read : (ask : ServiceAsk) → read_call (note_words (Asked (Service ask)))
@@ -411,7 +417,7 @@ form_read : (note : Note) → NumbersAreInRange note → read_call (note_words n
 form_read (Asked (Rate station (Ht mcs mhz short))) r = rw (number_format mcs r.1.0) refl
 form_read (Asked (Pull c l)) r = pull_read c l.frames l.air
 form_read (Asked (Done exchange heard None)) r = refl
-form_read (Asked (Group ask)) r = group_read ask
+form_read (Asked (Group call)) r = group_read call.bss call.ask
 form_read (Asked (Service ask)) r = service_read ask
 form_read note r = refl
 

@@ -8,7 +8,7 @@ use Rattle.wf_frame.specs.declared.calls.CallForm.TheVariants.{Rate, RateVht, Ra
 use Rattle.wf_frame.specs.declared.calls.RateFormat.{RateFormat}
 use Rattle.wf_frame.specs.declared.calls.RateFormat.TheVariants.{Vht, He, Ofdm, Dsss}
 use Rattle.wf_frame.specs.declared.calls.Arg.{Arg}
-use Rattle.wf_frame.specs.declared.calls.Arg.TheVariants.{Short, Octet, Long, Exchange, Length, Weight, Class, Format, Guard, Heard, Air, Frames, Number, End}
+use Rattle.wf_frame.specs.declared.calls.Arg.TheVariants.{Short, Octet, Long, Exchange, Length, Weight, Bss, Class, Format, Guard, Heard, Air, Frames, Number, End}
 use Rattle.wf_frame.specs.declared.calls.Value.{Value}
 use Rattle.wf_frame.specs.declared.calls.Value.TheVariants as value
 use Rattle.wf_def_lists.specs.Lengths.{greatest_body}
@@ -114,6 +114,7 @@ read_arg Long word = result_seen value.Long (in_range 0 long_most (number_of wor
 read_arg Exchange word = result_seen value.Exchange (in_range 0 long_most (number_of word))
 read_arg Length word = result_seen value.Short (in_range 1 greatest_body (number_of word))
 read_arg Weight word = result_seen value.Octet (in_range 0 octet_most (number_of word))
+read_arg Bss word = result_seen value.Octet (in_range 0 octet_most (number_of word))
 read_arg (Number low high) word = result_seen value.Long (in_range low high (number_of word))
 read_arg arg word = among (known_value arg word)
 

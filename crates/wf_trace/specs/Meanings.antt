@@ -17,7 +17,7 @@ use Rattle.wf_trace.specs.Settings.{read_words}
 -- the settings of a head, given its words after `cell`; a setting that it does not set has its standard
 -- value
 abbrev pub read_head : List (List ℕ) → Result Config FaultKind
-read_head words = read_words words (replicate 27 false) standard
+read_head words = read_words words (replicate 28 false) standard
 
 -- a call, if one is allowed in this place
 abbrev pub allowed : ℕ → Option Place → Result Note FaultKind → Result Meaning FaultKind

@@ -42,7 +42,9 @@ fn read_one(arg: Arg, word: &[u8]) -> Result<Value, FaultKind>
 {
     match arg {
         Arg::Short => Ok(Value::Short(in_range(0, u32::from(u16::MAX), word)? as u16)),
-        Arg::Octet | Arg::Weight => Ok(Value::Octet(in_range(0, u32::from(u8::MAX), word)? as u8)),
+        Arg::Octet | Arg::Weight | Arg::Bss => Ok(Value::Octet(
+            in_range(0, u32::from(u8::MAX), word)? as u8,
+        )),
         Arg::Long => Ok(Value::Long(in_range(0, u32::MAX, word)?)),
         Arg::Exchange => Ok(Value::Exchange(u64::from(in_range(0, u32::MAX, word)?))),
         Arg::Number { low, high } => Ok(Value::Long(in_range(low, high, word)?)),

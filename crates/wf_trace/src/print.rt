@@ -111,9 +111,10 @@ fn push_note(note: &Note, out: &mut Line)
 
 /// Writes the canonical line of an entry to `out`, which must be empty: the words of the call, separated by
 /// one space, and the octet 10. `@` and the caller come first, unless the caller is 0. The weight of a
-/// `join` is left out if it is 1, the format of a `rate` if it is HT, and the airtime of a `done` if it
-/// gives none. An exchange number must be below 2^32, and a length 1 to 2304 octets: a line has no room for
-/// others. After a head that allows one more call the line is read as this entry.
+/// `join` is left out if it is 1, the BSS of a call about group frames if it is 0, the format of a `rate` if
+/// it is HT, and the airtime of a `done` if it gives none. An exchange number must be below 2^32, and a
+/// length 1 to 2304 octets: a line has no room for others. After a head that allows one more call the line is
+/// read as this entry.
 pub fn print_note(caller: u32, note: &Note, out: &mut Line)
     requires empty { out.old ≡ [] }
     requires caller { caller ≤ greatest_caller }

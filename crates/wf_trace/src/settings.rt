@@ -19,7 +19,7 @@ fn value_of(field: Field, word: &[u8]) -> Result<u32, FaultKind>
 // Returns the index of a setting among those that were seen, from 0 on.
 fn place(field: Field) -> usize
     ensures value { result ≡ place_of field }
-    ensures below { result < 27 }
+    ensures below { result < 28 }
 {
     usize::from(field.number()) - 1
 }
@@ -50,7 +50,7 @@ fn setting(word: &[u8]) -> Option<(Field, &[u8])>
 }
 
 // Applies a setting's word to the settings, and returns its fault, if it has one.
-fn apply(word: &[u8], seen: &mut [bool; 27], config: &mut Config) -> Option<FaultKind>
+fn apply(word: &[u8], seen: &mut [bool; 28], config: &mut Config) -> Option<FaultKind>
     ensures { (others : List Bool → Config → Result Config FaultKind) →
         set_one (named_field (split_once word.now)) seen.old config.old others
         ≡ after_fault result (others seen.new config.new) }
@@ -74,10 +74,10 @@ fn apply(word: &[u8], seen: &mut [bool; 27], config: &mut Config) -> Option<Faul
 /// Returns the settings of a head, given its words after `cell`. The error is the first of its faults, in
 /// the order of the kinds.
 pub fn read_head(line: &[u8]) -> Result<Config, FaultKind>
-    ensures { result ≡ read_words (words line.now) (replicate 27 false) standard }
+    ensures { result ≡ read_words (words line.now) (replicate 28 false) standard }
 {
     let mut config = Config::standard();
-    let mut seen = [false; 27];
+    let mut seen = [false; 28];
     let mut fault = None;
     let mut rest = line;
     while let Some((word, behind)) = next_word(rest) {

@@ -1,6 +1,7 @@
 //! Encodes beacons and group frames as they are on the air.
 
-ghost use Rattle.std.specs.Prelude.{◌≡◌, ◌+◌, ◌≤◌, ◌++◌, length, take};
+ghost use Rattle.std.specs.Prelude.{◌≡◌, ◌+◌, ◌<◌, ◌≤◌, ◌++◌, length, take};
+ghost use Rattle.wf_def_world.specs.Group.{bss_count};
 ghost use Rattle.wf_frame.specs.Frames.{sample_body};
 ghost use Rattle.wf_report.specs.GroupFrames.{group_frame, beacon_head, beacon_frame};
 ghost use Rattle.wf_report.specs.Samples.{world_behind};
@@ -30,7 +31,7 @@ const BEACON_FIELDS: [u8; 16] = [
 ];
 
 /// Writes a group frame of a trace with this sequence number, this More Data bit and the length of its body,
-/// and returns its number of octets. Of a longer body only the greatest number of octets is written.
+/// and returns its number of octets. If a body is too long, only the greatest number of octets is written.
 pub(crate) fn group_frame(
     number: u16,
     more: bool,
@@ -64,14 +65,15 @@ fn put_body(octets: &mut [u8], place: usize, len: u16) -> usize
     end
 }
 
-/// Writes the beacon that the cell's last call sent, and returns its number of octets.
-pub(crate) fn beacon(cell: &Cell, octets: &mut [u8; GREATEST_BEACON]) -> usize
+/// Writes the beacon of a BSS that the cell's last call sent, and returns its number of octets.
+pub(crate) fn beacon(cell: &Cell, bss: u8, octets: &mut [u8; GREATEST_BEACON]) -> usize
+    requires { bss < bss_count (world_behind cell.now).config.bsses }
     ensures within { result ≤ 304 }
-    ensures octets { take result octets.new ≡ beacon_frame (world_behind cell.now) }
+    ensures octets { take result octets.new ≡ beacon_frame (world_behind cell.now) bss }
 {
-    let head = beacon_head(numbers(cell).saturating_sub(1), cell.clock());
+    let head = beacon_head(numbers(cell, bss).saturating_sub(1), cell.clock());
     let mut map = [0; 256];
-    let len = traffic(cell, &mut map);
+    let len = traffic(cell, bss, &mut map);
     let place = put(octets, 0, &head);
     put(octets, place, &map[..len])
 }

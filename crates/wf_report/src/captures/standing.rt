@@ -6,7 +6,8 @@ ghost use Rattle.wf_send_parts.specs.Group.{world_frame};
 ghost use Rattle.wf_frame.specs.declared.notes.Note.{Note as Call};
 ghost use Rattle.wf_path.specs.Transmissions.{sent_of};
 ghost use Rattle.wf_def_world.specs.Run.{Past, by};
-ghost use Rattle.wf_def_world.specs.World.{exchange as exchange_in};
+ghost use Rattle.wf_def_world.specs.Group.{bss_count};
+ghost use Rattle.wf_def_world.specs.World.{exchange as exchange_in, group_of};
 ghost use Rattle.wf_report.specs.Samples.{world_behind};
 
 use wf_cell::Cell;
@@ -22,18 +23,20 @@ pub(crate) fn sent(cell: &Cell, exchange: u64) -> Option<Sent>
     cell.path().sent(exchange)
 }
 
-/// Returns the group frame that is on the air, if there is one.
-pub(crate) fn flying(cell: &Cell) -> Option<GroupFrame>
-    ensures { option_map world_frame result ≡ (world_behind cell.now).group.flying }
+/// Returns the group frame of a BSS that is on the air, if there is one.
+pub(crate) fn flying(cell: &Cell, bss: u8) -> Option<GroupFrame>
+    requires { bss < bss_count (world_behind cell.now).config.bsses }
+    ensures { option_map world_frame result ≡ (group_of (world_behind cell.now) bss).flying }
 {
-    cell.path().group_frame()
+    cell.path().group_frame(bss)
 }
 
-/// Returns how many sequence numbers beacons and group frames have taken.
-pub(crate) fn numbers(cell: &Cell) -> u64
-    ensures { result ≡ (world_behind cell.now).group.number }
+/// Returns how many sequence numbers the beacons and the group frames of a BSS have taken.
+pub(crate) fn numbers(cell: &Cell, bss: u8) -> u64
+    requires { bss < bss_count (world_behind cell.now).config.bsses }
+    ensures { result ≡ (group_of (world_behind cell.now) bss).number }
 {
-    cell.path().group_counts().numbers
+    cell.path().group_counts(bss).numbers
 }
 
 /// Returns the call that was made last.

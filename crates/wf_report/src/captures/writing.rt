@@ -1,20 +1,22 @@
 //! Writes what a call puts on the air, as packets, from its answer and the cell after it.
 
-ghost use Rattle.std.specs.Prelude.{◌≡◌, [], ◌∷◌, OnOk};
+ghost use Rattle.std.specs.Prelude.{◌≡◌, ◌<◌, [], ◌∷◌, IfSome, OnOk};
 ghost use Rattle.std.specs.Io.KnownBytes.{append_known};
 ghost use Rattle.wf_frame.specs.Answers.{reply_of};
 ghost use Rattle.wf_io.specs.Faults.{CountsFaults};
 ghost use Rattle.wf_io.specs.Fronts.{HoldsFront};
-ghost use Rattle.wf_def_world.specs.World.{exchange as exchange_in};
+ghost use Rattle.wf_def_world.specs.Group.{bss_count};
+ghost use Rattle.wf_def_world.specs.World.{exchange as exchange_in, group_of};
 ghost use Rattle.wf_report.specs.AckFrames.{ack_frame};
 ghost use Rattle.wf_report.specs.Captures.{samples};
 ghost use Rattle.wf_report.specs.GroupFrames.{beacon_frame, group_frames};
-ghost use Rattle.wf_report.specs.Packets.{frames_sent, block_acks, exchange_answered, frames_of_group, frames_by, packets_at, octets_of_packets};
+ghost use Rattle.wf_report.specs.Packets.{frames_sent, block_acks, exchange_answered, bss_named, frames_of_group, frames_by, packets_at, octets_of_packets};
 ghost use Rattle.wf_report.specs.Samples.{IsSampled, world_behind};
 
 use crate::captures::frames::{Shown, ack, narrow_ack, transmission, wide_ack};
 use crate::captures::group::{GREATEST_BEACON, beacon, group_frame};
 use crate::captures::standing::{flying, sent};
+use crate::standing::bsses;
 use wf_cell::Cell;
 use wf_frame::{Answer, Ask, Brief, GroupReply, Note};
 use wf_io::pcap::write_packet;
@@ -27,6 +29,17 @@ fn exchange_answered(note: &Note) -> Option<u64>
 {
     match note {
         Note::Asked(Ask::Answer { exchange }) => Some(*exchange),
+        _ => None,
+    }
+}
+
+/// Returns the BSS that a call about group frames names, if there is one of that number.
+fn bss_named(cell: &Cell, note: &Note) -> Option<u8>
+    ensures named { result ≡ bss_named (world_behind cell.now) note.now }
+    ensures within { IfSome result (λ bss. bss < bss_count (world_behind cell.now).config.bsses) }
+{
+    match note {
+        Note::Asked(Ask::Group(call)) if call.bss < bsses(cell) => Some(call.bss),
         _ => None,
     }
 }
@@ -97,38 +110,41 @@ fn write_ack<K: Sink>(cell: &Cell, sink: &mut K) -> Result<(), Failed>
     write_packet(sink, cell.clock(), &octets[..len])
 }
 
-/// Writes a packet for the beacon that the last call sent.
-fn write_beacon<K: Sink>(cell: &Cell, sink: &mut K) -> Result<(), Failed>
+/// Writes a packet for the beacon of a BSS that the last call sent.
+fn write_beacon<K: Sink>(cell: &Cell, bss: u8, sink: &mut K) -> Result<(), Failed>
+    requires { bss < bss_count (world_behind cell.now).config.bsses }
     ensures written { OnOk result (K.held sink.new ≡ append_known (K.held sink.old)
         (octets_of_packets (packets_at (world_behind cell.now).clock
-        (beacon_frame (world_behind cell.now) ∷ [])))) }
+        (beacon_frame (world_behind cell.now) bss ∷ [])))) }
     ensures front { HoldsFront (K.held sink.old) (K.held sink.new)
         (octets_of_packets (packets_at (world_behind cell.now).clock
-        (beacon_frame (world_behind cell.now) ∷ []))) }
+        (beacon_frame (world_behind cell.now) bss ∷ []))) }
     ensures cause { CountsFaults (K.faults sink.old) (K.faults sink.new) result }
 {
     let mut octets = [0; GREATEST_BEACON];
-    let len = beacon(cell, &mut octets);
+    let len = beacon(cell, bss, &mut octets);
     write_packet(sink, cell.clock(), &octets[..len])
 }
 
-/// Writes a packet for the group frame that is on the air, with this sequence number and this More Data bit,
-/// or nothing if there is none.
+/// Writes a packet for the group frame of a BSS that is on the air, with this sequence number and this More
+/// Data bit, or nothing if there is none.
 fn write_group_frame<K: Sink>(
     cell: &Cell,
+    bss: u8,
     number: u16,
     more: bool,
     sink: &mut K,
 ) -> Result<(), Failed>
+    requires { bss < bss_count (world_behind cell.now).config.bsses }
     ensures written { OnOk result (K.held sink.new ≡ append_known (K.held sink.old)
         (octets_of_packets (packets_at (world_behind cell.now).clock
-        (group_frames number more (world_behind cell.now).group.flying)))) }
+        (group_frames number more (group_of (world_behind cell.now) bss).flying)))) }
     ensures front { HoldsFront (K.held sink.old) (K.held sink.new)
         (octets_of_packets (packets_at (world_behind cell.now).clock
-        (group_frames number more (world_behind cell.now).group.flying))) }
+        (group_frames number more (group_of (world_behind cell.now) bss).flying))) }
     ensures cause { CountsFaults (K.faults sink.old) (K.faults sink.new) result }
 {
-    let Some(frame) = flying(cell) else {
+    let Some(frame) = flying(cell, bss) else {
         return Ok(());
     };
     let mut octets = [0; GREATEST_MPDU];
@@ -136,19 +152,27 @@ fn write_group_frame<K: Sink>(
     write_packet(sink, cell.clock(), &octets[..len])
 }
 
-/// Writes the packets of a call about group frames, from its answer and the cell after it.
-fn write_group<K: Sink>(cell: &Cell, answer: GroupReply, sink: &mut K) -> Result<(), Failed>
+/// Writes the packets of a call about the group frames of a BSS, from its answer and the cell after it.
+fn write_group<K: Sink>(
+    cell: &Cell,
+    bss: u8,
+    answer: GroupReply,
+    sink: &mut K,
+) -> Result<(), Failed>
+    requires { bss < bss_count (world_behind cell.now).config.bsses }
     ensures written { OnOk result (K.held sink.new ≡ append_known (K.held sink.old)
         (octets_of_packets (packets_at (world_behind cell.now).clock
-        (frames_of_group (world_behind cell.now) answer)))) }
+        (frames_of_group (world_behind cell.now) bss answer)))) }
     ensures front { HoldsFront (K.held sink.old) (K.held sink.new)
         (octets_of_packets (packets_at (world_behind cell.now).clock
-        (frames_of_group (world_behind cell.now) answer))) }
+        (frames_of_group (world_behind cell.now) bss answer))) }
     ensures cause { CountsFaults (K.faults sink.old) (K.faults sink.new) result }
 {
     match answer {
-        GroupReply::Beacon { .. } => write_beacon(cell, sink),
-        GroupReply::Send { number, more, .. } => write_group_frame(cell, number, more, sink),
+        GroupReply::Beacon { .. } => write_beacon(cell, bss, sink),
+        GroupReply::Send { number, more, .. } => {
+            write_group_frame(cell, bss, number, more, sink)
+        }
         GroupReply::Queued { .. } | GroupReply::Done { .. } => Ok(()),
     }
 }
@@ -194,7 +218,10 @@ pub(crate) fn write_frames<K: Sink>(
             }
         },
         Brief::Ack => write_ack(cell, sink),
-        Brief::Group(answer) => write_group(cell, answer, sink),
+        Brief::Group(answer) => match bss_named(cell, note) {
+            None => Ok(()),
+            Some(bss) => write_group(cell, bss, answer, sink),
+        },
         _ => Ok(()),
     }
 }

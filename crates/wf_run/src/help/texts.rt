@@ -85,20 +85,21 @@ A trace is a head, then calls, then the line end:
   begin S TID W                   S, 0..65535; TID, 0..255; W, 0..65535
   free S TID                      S, 0..65535; TID, 0..255
   cease S TID                     S, 0..65535; TID, 0..255
-  group LENGTH                    LENGTH, 1..2304
-  beacon                          
-  gpull                           
-  gdone                           
+  group LENGTH [B]                LENGTH, 1..2304; B, 0..255
+  beacon [B]                      B, 0..255
+  gpull [B]                       B, 0..255
+  gdone [B]                       B, 0..255
   apsd S CLASSES MAX              S, 0..65535; CLASSES, 0..255; MAX, 0..255
   trigger S                       S, 0..65535
   eosp S                          S, 0..65535
+  bss S B                         S, 0..65535; B, 0..255
   end
 
 Settings: stations=1..256 flows=1..4096 limit=1..65535 room=1..131072 flow_quantum=64..65535
 quantum=100..10000 inflight=1..8 attempts=1..64 agg=1..256 cap=3000..5400 sleeping=1..65535
 calls=1..4294967295 charge=0..65535 debt=0..1000000 aql_total=0..262144 keep_order=0..1
 codel_reset=0..1 aql=0..262144 pending=0..1 overhead=0..32 cap_vi=0..5400 cap_vo=0..5400
-answers=0..1 credits=0..1 legacy=0..2 period=0..255 buffered=0..65535
+answers=0..1 credits=0..1 legacy=0..2 period=0..255 buffered=0..65535 bsses=0..16
 
 Words are separated by spaces. A line that begins with #, after any spaces, is a comment and
 is skipped. A call line may begin with its caller, @0 to @65535. A number has 1 to 10 decimal

@@ -3,8 +3,15 @@ use Rattle.std.proofs.Common.{rules, ◌∙◌, take, ap}
 use Rattle.wf_path.specs.Addresses.{Addresses}
 use Rattle.wf_path.proofs.MadeUp.{made_up_has_aids}
 use Rattle.wf_def_world.specs.Run.{world_of}
+use Rattle.wf_report.proofs.Cells.{bss_within}
 use Rattle.wf_report.proofs.Takes.{take_within}
 use Rattle.wf_report.proofs.standing.traffic.Goals as goal
+
+pub tim-requires : goal.tim-requires
+tim-requires c =
+    let stands = c.path.ensures.stands in
+    rw (c.path.ensures.value)
+    (bss_within _ (world_of c.args.cell.now.past) stands.0 c.args.bss stands.1 c.requires)
 
 pub returns-clause-octets : goal.returns-clause-octets
 returns-clause-octets c =

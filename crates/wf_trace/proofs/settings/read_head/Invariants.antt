@@ -8,7 +8,7 @@ use Rattle.wf_trace.specs.Settings.{read_words, after_fault}
 use Rattle.wf_trace.proofs.settings.read_head.Given as goal
 
 abbrev pub invariant-loop-word : goal.invariant-loop-word
-invariant-loop-word l = read_words (words l.line) (replicate 27 false) standard
+invariant-loop-word l = read_words (words l.line) (replicate 28 false) standard
     ≡ after_fault l.fault (read_words (words l.rest) l.seen l.config)
 
 abbrev pub decreases-loop-word : goal.decreases-loop-word

@@ -12,7 +12,8 @@ use Rattle.wf_report.proofs.captures.writing.write_group.Goals as goal
 pub returns-in-Beacon-clause-written : goal.returns-in-Beacon-clause-written
 returns-in-Beacon-clause-written g c =
     let w : World = world_behind c.args.cell.now in
-    let same = ap (λ (a : GroupReply). octets_of_packets (packets_at w.clock (frames_of_group w a)))
+    let same =
+    ap (λ (a : GroupReply). octets_of_packets (packets_at w.clock (frames_of_group w c.args.bss a)))
     c.in-Beacon.is in
     on_ok c.write_beacon.result
     (λ wrote. wrote ∙ ap (append_known (g.K.Sink.held c.args.sink.now)) (sym same))
@@ -21,7 +22,8 @@ returns-in-Beacon-clause-written g c =
 pub returns-in-Beacon-clause-front : goal.returns-in-Beacon-clause-front
 returns-in-Beacon-clause-front g c =
     let w : World = world_behind c.args.cell.now in
-    let same = ap (λ (a : GroupReply). octets_of_packets (packets_at w.clock (frames_of_group w a)))
+    let same =
+    ap (λ (a : GroupReply). octets_of_packets (packets_at w.clock (frames_of_group w c.args.bss a)))
     c.in-Beacon.is in
     subst (HoldsFront (g.K.Sink.held c.args.sink.now) (g.K.Sink.held c.write_beacon.new.sink))
     (sym same) c.write_beacon.ensures.front
@@ -29,7 +31,8 @@ returns-in-Beacon-clause-front g c =
 pub returns-in-Send-clause-written : goal.returns-in-Send-clause-written
 returns-in-Send-clause-written g c =
     let w : World = world_behind c.args.cell.now in
-    let same = ap (λ (a : GroupReply). octets_of_packets (packets_at w.clock (frames_of_group w a)))
+    let same =
+    ap (λ (a : GroupReply). octets_of_packets (packets_at w.clock (frames_of_group w c.args.bss a)))
     c.in-Send.is in
     on_ok c.write_group_frame.result
     (λ wrote. wrote ∙ ap (append_known (g.K.Sink.held c.args.sink.now)) (sym same))
@@ -38,7 +41,8 @@ returns-in-Send-clause-written g c =
 pub returns-in-Send-clause-front : goal.returns-in-Send-clause-front
 returns-in-Send-clause-front g c =
     let w : World = world_behind c.args.cell.now in
-    let same = ap (λ (a : GroupReply). octets_of_packets (packets_at w.clock (frames_of_group w a)))
+    let same =
+    ap (λ (a : GroupReply). octets_of_packets (packets_at w.clock (frames_of_group w c.args.bss a)))
     c.in-Send.is in
     subst (HoldsFront (g.K.Sink.held c.args.sink.now) (g.K.Sink.held c.write_group_frame.new.sink))
     (sym same) c.write_group_frame.ensures.front

@@ -1,6 +1,7 @@
--- Proves that the packet of the group frame that is on the air is written. By cases of whether there is one.
+-- Proves that the packet of the group frame of the BSS that is on the air is written. By cases of whether
+-- there is one.
 use Rattle.std.proofs.Common.{take}
-use Rattle.wf_def_world.specs.World.{World}
+use Rattle.wf_def_world.specs.World.{World, group_of}
 use Rattle.wf_send_parts.specs.Group.{world_frame}
 use Rattle.wf_report.specs.GroupFrames.{group_frame}
 use Rattle.wf_report.specs.Samples.{world_behind}
@@ -16,7 +17,7 @@ returns-clause-written g c =
     w.clock (take c.group_frame-len.result c.group_frame-len.new.octets)
     (group_frame c.args.number c.args.more c.in-Some.frame.len) _ c.clock.ensures.value
     c.group_frame-len.ensures.octets
-    (group_one w.clock c.args.number c.args.more w.group.flying (world_frame c.in-Some.frame)
+    (group_one w.clock c.args.number c.args.more (group_of w c.args.bss).flying (world_frame c.in-Some.frame)
     c.in-Some.ensures))
     c.write_packet.ensures.written
 
@@ -27,6 +28,6 @@ returns-clause-front g c =
     w.clock (take c.group_frame-len.result c.group_frame-len.new.octets)
     (group_frame c.args.number c.args.more c.in-Some.frame.len) _ c.clock.ensures.value
     c.group_frame-len.ensures.octets
-    (group_one w.clock c.args.number c.args.more w.group.flying (world_frame c.in-Some.frame)
+    (group_one w.clock c.args.number c.args.more (group_of w c.args.bss).flying (world_frame c.in-Some.frame)
     c.in-Some.ensures)
     c.write_packet.ensures.prefix

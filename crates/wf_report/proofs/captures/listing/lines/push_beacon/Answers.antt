@@ -1,4 +1,4 @@
--- Proves that the words and the numbers are those of a beacon.
+-- Proves that the words and the numbers describe a beacon.
 use Rattle.std.proofs.Common.{refl}
 use Rattle.wf_report.proofs.captures.listing.lines.push_beacon.Goals as goal
 
