@@ -44,11 +44,10 @@
  *
  * Units. Times are in microseconds. Station numbers are 0 to `stations` - 1, and TIDs 0 to 7. The counts of a
  * path must stay below 2^62: the clock, the exchanges, the accepted frames, each live station's airtime in
- * each class, the accepted group frames, 131,072 times the group frames that were sent, and the sequence
- * numbers of group frames and beacons (wf_path_now, wf_path_exchanges, wf_path_tally, wf_path_share,
- * wf_path_group_counts).
- * wf_path_has_small_counts says whether they are. Before wf_path_burst they must be below 2^61, and a burst
- * has fewer than 2^32 calls. This does not apply to cells.
+ * each class, and of each BSS the accepted group frames, 131,072 times the group frames that were sent, and
+ * the sequence numbers of group frames and beacons (wf_path_now, wf_path_exchanges, wf_path_tally,
+ * wf_path_share, wf_path_group_counts). wf_path_has_small_counts says whether they are. Before wf_path_burst
+ * they must be below 2^61, and a burst has fewer than 2^32 calls. This does not apply to cells.
  *
  * Breaches. A handle that is never freed leaks what it holds. Every other breach is undefined behaviour:
  * - to use a handle while it is empty, except to make or free it, or to use a handle and a copy of it;
@@ -101,7 +100,7 @@ extern "C" {
 /* The values that functions of type int32_t return, except wf_path_live, wf_path_in_service, wf_path_can_pull,
  * wf_path_listed and wf_path_has_small_counts. 0 means success. Any other code says why nothing has changed:
  * neither what the handle holds, nor the caller's structs and buffers. There are these exceptions:
- * - `reply` shows the refusal, if the code is 1 to 42, unless the comment of the function says that it is
+ * - `reply` shows the refusal, if the code is 1 to 43, unless the comment of the function says that it is
  *   unchanged;
  * - after a code of wf_path_burst or wf_cell_burst the first `made` calls are made;
  * - WF_FULL, WF_AHEAD and WF_IDLE set the count of `frames` of wf_path_pull and wf_path_pull_limited to 0;
@@ -144,7 +143,8 @@ enum wf_code {
   WF_ANSWERED = 19,     /* the exchange was answered already */
   WF_ARRIVED = 20,      /* that transmission arrived already */
   WF_NOTHING = 21,      /* there is nothing to answer, to send, to reap or to end */
-  WF_ASLEEP = 22,       /* `sleep`: the station is asleep already; `apsd`: the station is asleep */
+  WF_ASLEEP = 22,       /* `sleep`: the station is asleep already; `apsd` and `bss`: the station
+                         * is asleep */
   WF_AWAKE = 23,        /* the station is awake */
   WF_POLLED = 24,       /* `poll`: the station has a credit that is not spent yet; `trigger`: its
                          * service period is open already */
@@ -171,6 +171,7 @@ enum wf_code {
   WF_BUFFERED = 40,     /* `count` group frames are queued: as many as `buffered` */
   WF_FLYING = 41,       /* a group frame is on the air */
   WF_BAD_CLASSES = 42,  /* the delivery-enabled classes are not 0 to 15 */
+  WF_BAD_BSS = 43,      /* the BSS number is not below `bsses`, or not 0 if `bsses` is 0 */
   /* end refusals */
   /* other codes */
   WF_NO_MEMORY = 60,    /* out of memory */
@@ -235,8 +236,8 @@ enum wf_outcome {
 enum wf_kind {
   WF_KIND_JOINED = 0,
   WF_KIND_LEFT = 1,      /* count: the number of frames that were dropped */
-  WF_KIND_SET = 2,       /* the rate, the greatest aggregate, the weight or the delivery-enabled classes are
-                          * set */
+  WF_KIND_SET = 2,       /* the rate, the greatest aggregate, the weight, the delivery-enabled classes or the
+                          * BSS is set */
   WF_KIND_NOW = 3,       /* now */
   WF_KIND_ACCEPTED = 4,  /* id; dropped, if has_dropped is 1 */
   WF_KIND_SEND = 5,      /* exchange, station, tid, air, more, batch, plain, eosp; start, if request is 1 */
@@ -269,12 +270,13 @@ enum wf_kind {
 
 /* The calls of a cell, each with the fields of `struct wf_call` that have a meaning. The other fields are 0
  * in an entry that is read, and are ignored in a call that is made. A call has the number of its answer,
- * except that WF_CALL_AMPDU, WF_CALL_WEIGHT and WF_CALL_APSD are answered with WF_KIND_SET, WF_CALL_GIVEUP with
- * WF_KIND_MARKED, WF_CALL_FLUSH with WF_KIND_FLUSHED, WF_CALL_OFFLOAD and WF_CALL_PLAIN with WF_KIND_JOINED,
- * WF_CALL_HOLD with WF_KIND_HELD, WF_CALL_BEGIN with WF_KIND_BEGUN, WF_CALL_FREE with WF_KIND_FREED,
- * WF_CALL_CEASE with WF_KIND_CEASED, WF_CALL_GROUP with WF_KIND_QUEUED, WF_CALL_BEACON with WF_KIND_BEACON,
- * WF_CALL_GPULL with WF_KIND_GSEND, WF_CALL_GDONE with WF_KIND_GDONE, WF_CALL_TRIGGER with WF_KIND_TRIGGERED,
- * and WF_CALL_EOSP with WF_KIND_ENDED. WF_CALL_ANSWER of a plain exchange is answered with WF_KIND_ACK. */
+ * except that WF_CALL_AMPDU, WF_CALL_WEIGHT, WF_CALL_APSD and WF_CALL_BSS are answered with WF_KIND_SET,
+ * WF_CALL_GIVEUP with WF_KIND_MARKED, WF_CALL_FLUSH with WF_KIND_FLUSHED, WF_CALL_OFFLOAD and WF_CALL_PLAIN with
+ * WF_KIND_JOINED, WF_CALL_HOLD with WF_KIND_HELD, WF_CALL_BEGIN with WF_KIND_BEGUN, WF_CALL_FREE with
+ * WF_KIND_FREED, WF_CALL_CEASE with WF_KIND_CEASED, WF_CALL_GROUP with WF_KIND_QUEUED, WF_CALL_BEACON with
+ * WF_KIND_BEACON, WF_CALL_GPULL with WF_KIND_GSEND, WF_CALL_GDONE with WF_KIND_GDONE, WF_CALL_TRIGGER with
+ * WF_KIND_TRIGGERED, and WF_CALL_EOSP with WF_KIND_ENDED. WF_CALL_ANSWER of a plain exchange is answered with
+ * WF_KIND_ACK. */
 enum wf_call_kind {
   /* begin calls: tools/tables writes these lines; the comments stay */
   WF_CALL_JOIN = 0,     /* station, window, start, exponent, weight */
@@ -305,13 +307,14 @@ enum wf_call_kind {
   WF_CALL_BEGIN = 24,   /* station, tid, window */
   WF_CALL_FREE = 25,    /* station, tid */
   WF_CALL_CEASE = 26,   /* station, tid */
-  WF_CALL_GROUP = 27,   /* length: 1 to WF_GREATEST_BODY */
-  WF_CALL_BEACON = 28,  /* none */
-  WF_CALL_GPULL = 29,   /* none */
-  WF_CALL_GDONE = 30,   /* none */
+  WF_CALL_GROUP = 27,   /* bss; length: 1 to WF_GREATEST_BODY */
+  WF_CALL_BEACON = 28,  /* bss */
+  WF_CALL_GPULL = 29,   /* bss */
+  WF_CALL_GDONE = 30,   /* bss */
   WF_CALL_APSD = 31,    /* station, classes, most */
   WF_CALL_TRIGGER = 32, /* station */
-  WF_CALL_EOSP = 33     /* station */
+  WF_CALL_EOSP = 33,    /* station */
+  WF_CALL_BSS = 34      /* station, bss */
   /* end calls */
 };
 
@@ -375,7 +378,8 @@ struct wf_settings {
   uint32_t period;       /* DTIM period: the number of beacons from one DTIM beacon to the next;
                           * 0 means 1 [0..255] */
   uint32_t buffered;     /* group frames that may be queued; with 0 none is accepted [0..65535] */
-  uint32_t reserved[5];  /* for later settings: each has to be 0 */
+  uint32_t bsses;        /* BSSs, which are numbered 0 to `bsses` - 1; 0 means 1 [0..16] */
+  uint32_t reserved[4];  /* for later settings: each has to be 0 */
   /* end settings */
 };
 
@@ -397,7 +401,7 @@ struct wf_reply {
   uint16_t waiting;     /* frames of the exchange that wait to be sent again */
   uint16_t failed;      /* frames of the exchange that are dropped */
   uint8_t kind;         /* enum wf_kind */
-  uint8_t refusal;      /* enum wf_code, 0 to 42: what the function returned */
+  uint8_t refusal;      /* enum wf_code, 0 to 43: what the function returned */
   uint8_t tid;          /* the TID to send for */
   uint8_t class_;       /* enum wf_class: the class of the credit, or the first class to pull in a service
                          * period */
@@ -410,7 +414,7 @@ struct wf_reply {
   uint8_t plain;        /* 1 if the exchange is one frame without an agreement, which an Ack answers
                          * (wf_path_plain), else 0 */
   uint8_t eosp;         /* 1 if the exchange is the last one of a service period (wf_path_trigger), else 0; the
-                         * header of its last frame has the EOSP bit */
+                         * header of its last frame has the EOSP bit, and those before it More Data */
 };
 
 /* The frames of an exchange: the first `count` ids and sequence numbers (0 to 4095). Those of a batch have no
@@ -467,13 +471,13 @@ struct wf_taken {
 
 /* A group frame: a data frame to a group address. Its octets stay with its owner. */
 struct wf_group {
-  uint64_t id;       /* ids of group frames count from 0, apart from those of other frames */
+  uint64_t id;       /* ids of the group frames of a BSS count from 0, apart from all others */
   uint64_t tag;      /* identifies it to its owner; the library does not use it */
   uint16_t length;   /* the number of its octets: 1 to WF_GREATEST_BODY */
   uint8_t to[6];     /* the group address */
 };
 
-/* How many group frames were accepted, and what became of them: accepted = sent + queued + flying. */
+/* How many group frames of a BSS were accepted, and what became of them: accepted = sent + queued + flying. */
 struct wf_group_counts {
   uint64_t accepted;
   uint64_t sent;
@@ -552,6 +556,7 @@ struct wf_call {
   uint8_t speed;       /* OFDM: in Mbit/s; DSSS: in half Mbit/s */
   uint8_t classes;     /* the delivery-enabled classes: bit c is 1 if class c (enum wf_class) is one */
   uint8_t most;        /* the most frames of a service period; 0 limits nothing */
+  uint8_t bss;         /* the BSS of a call about group frames, or the one that a station gets */
 };
 
 /* The frames that a station passed up: the first `count` ids, in order. The entries after them have no
@@ -596,7 +601,7 @@ void wf_kind_name(int32_t kind, char name[WF_NAME]);
  * word for any other number is "?". */
 void wf_fate_name(int32_t fate, char name[WF_NAME]);
 
-/* Writes the word for a setting, as in a trace, by its place in struct wf_settings, 1 to 27; the rest of
+/* Writes the word for a setting, as in a trace, by its place in struct wf_settings, 1 to 28; the rest of
  * `name`, at least one octet, is 0. The word for any other number is "?". */
 void wf_setting_name(int32_t place, char name[WF_NAME]);
 
@@ -618,28 +623,28 @@ int32_t wf_path_make(struct wf_path *path, const struct wf_settings *settings);
 /* Frees the path of a handle with all frames inside. The handle is then empty. If it was, nothing happens. */
 void wf_path_free(struct wf_path *path);
 
-/* ---- addresses. A path has the address of the access point and one for each station number, of six octets
- * each, in the order of the air. At first they are placeholders: 02:00:00:00:00:00 for the access point, and
- * 02:00:00:01:hh:ll for a station, with the two octets of its number. A transmission goes from the access
- * point's address to that of the exchange's station, and a BlockAck has to go from the second to the first; a
- * function uses the addresses that the path has when it is called. A join or a leave changes no address and no
- * association identifier: they belong to the station number. The caller has to make sure that no two live
- * stations have the same address, and that none has the access point's. A cell always has the placeholders. */
+/* ---- addresses. A path has the address of the access point in each BSS (BSSID), and one for each station
+ * number, of six octets each, in the order of the air. At first they are placeholders: 02:00:00:00:00:00 for
+ * the access point, and 02:00:00:01:hh:ll for a station, with the two octets of its number. A transmission goes
+ * from the access point's address in the BSS of the exchange's station to the station's address, and a BlockAck
+ * has to go from the second to the first; a function uses the addresses that the path has when it is called. A
+ * join or a leave changes no address and no association identifier: they belong to the station number. The
+ * caller has to make sure that no two live stations have the same address, that none has an address of the
+ * access point, and that no two BSSs have the same one. A cell always has the placeholders. */
 
-/* Sets the access point's address. Returns WF_OK; or WF_BAD_ADDRESS exactly if it is a group address, and
- * then nothing has changed. */
+/* Sets the access point's address in each BSS that has none of its own (wf_path_set_bss). Returns WF_OK; or
+ * WF_BAD_ADDRESS exactly if it is a group address, and then nothing has changed. */
 int32_t wf_path_set_base(struct wf_path *path, const uint8_t address[6]);
 
 /* Sets the address of a station, live or not. Returns WF_OK; WF_BAD_STATION if the station number does not
  * exist; or else WF_BAD_ADDRESS exactly if it is a group address. After an error nothing has changed. */
 int32_t wf_path_set_address(struct wf_path *path, uint16_t station, const uint8_t address[6]);
 
-/* Sets the access point's address (BSSID) for one station, live or not: a device with several BSSs has one
- * path, because they share the air. Frames to and from the station then have this address instead of that of
- * wf_path_set_base, also after a later call of wf_path_set_base. Returns WF_OK; WF_BAD_STATION if the station
- * number does not exist; or else WF_BAD_ADDRESS exactly if it is a group address. After an error nothing has
- * changed. */
-int32_t wf_path_set_bss(struct wf_path *path, uint16_t station, const uint8_t address[6]);
+/* Sets the access point's address in one BSS (BSSID), 0 to `bsses` - 1, or 0 if `bsses` is 0. Frames to and
+ * from its stations, and its group frames, then have this address instead of that of wf_path_set_base, also
+ * after a later call of wf_path_set_base. Returns WF_OK; WF_BAD_BSS if the BSS does not exist; or else
+ * WF_BAD_ADDRESS exactly if it is a group address. After an error nothing has changed. */
+int32_t wf_path_set_bss(struct wf_path *path, uint8_t bss, const uint8_t address[6]);
 
 /* Sets the association identifier (AID; IEEE 802.11-2012, 8.4.1.8) of a station, live or not: 1 to 2007, at
  * first the station number plus 1. The TIM shows the AIDs of stations that have traffic. Give each live
@@ -648,7 +653,7 @@ int32_t wf_path_set_bss(struct wf_path *path, uint16_t station, const uint8_t ad
  * 2007. After an error nothing has changed. */
 int32_t wf_path_set_aid(struct wf_path *path, uint16_t station, uint16_t aid);
 
-/* Writes the access point's address. */
+/* Writes the access point's address in each BSS that has none of its own. */
 void wf_path_base(const struct wf_path *path, uint8_t out[6]);
 
 /* Writes the address of a station, live or not. Returns WF_OK; or WF_BAD_STATION if the station number does
@@ -795,6 +800,13 @@ int32_t wf_path_flush(struct wf_path *path, uint16_t station, uint8_t tid, struc
  * then `reply` is unchanged; or else WF_BAD_STATION, WF_BAD_AIR, WF_NO_STATION or WF_DEBT. */
 int32_t wf_path_rx(struct wf_path *path, uint16_t station, uint8_t class_, uint32_t air, struct wf_reply *reply);
 
+/* Sets the BSS of a live station that is awake, 0 to `bsses` - 1: the frames to it have the address of this BSS
+ * (wf_path_set_bss), and while it sleeps it is in the TIM of this BSS, whose group frames wait for it. A
+ * station that joins is of BSS 0. A device with several BSSs has one path, because they share the air. Returns
+ * WF_OK; WF_BAD_STATION; WF_BAD_BSS if the BSS does not exist; WF_NO_STATION; or WF_ASLEEP if the station
+ * sleeps. */
+int32_t wf_path_set_station_bss(struct wf_path *path, uint16_t station, uint8_t bss, struct wf_reply *reply);
+
 /* Accepts a packet for a station as a frame, whose id is `id` of the reply. The body is copied. A refused
  * packet is the caller's as before, and the path keeps nothing of it. Returns WF_OK; WF_BAD_LENGTH exactly if
  * `length` is not 1 to WF_GREATEST_BODY; else WF_NO_MEMORY if there is no memory for the frame, whatever the
@@ -857,53 +869,56 @@ int32_t wf_path_reap(struct wf_path *path, struct wf_reply *reply, struct wf_tak
 int32_t wf_path_burst(struct wf_path *path, const struct wf_call *calls, size_t count, struct wf_reply *replies, size_t room,
                       size_t *made);
 
-/* ---- group frames: data frames to a group address, such as broadcasts. While a station sleeps, they wait
- * for a DTIM beacon that announces them (IEEE 802.11-2012, 10.2.1.4); otherwise they may go at once. They are
- * sent with OFDM at 6 Mbit/s, and no station answers them or is charged for them. wf_path_tally, wf_path_reap
- * and the setting `room` do not count them, and the library stores none of their octets. A driver calls
- * wf_path_beacon for each beacon, writes the TIM (wf_path_tim), and after the beacon pulls and sends group
- * frames until WF_IDLE.
+/* ---- group frames: data frames to a group address, such as broadcasts. Each BSS, 0 to `bsses` - 1 (0 alone if
+ * `bsses` is 0), has its own beacons, queue and sequence numbers, and each function is about one BSS. While a
+ * station of it sleeps, its group frames wait for a DTIM beacon that announces them (IEEE 802.11-2012,
+ * 10.2.1.4); otherwise they may go at once. They are sent with OFDM at 6 Mbit/s, and no station answers them or
+ * is charged for them. wf_path_tally, wf_path_reap and the setting `room` do not count them, and the library
+ * stores none of their octets. A driver calls wf_path_beacon for each beacon, writes the TIM (wf_path_tim), and
+ * after the beacon pulls and sends the group frames of the BSS until WF_IDLE. Each function returns WF_BAD_BSS
+ * if the BSS does not exist.
  *
  * Some hardware counts beacons, and has a queue that it sends after DTIM beacons. Its driver passes the
  * hardware's count to wf_path_tim, and as `group` 1 if that queue has a frame, else 0. It leaves the setting
  * `buffered` at 0, and calls none of the following functions. */
 
-/* Puts a group frame to the address `to` at the end of the queue; `id` of the reply is its id. `length` is
- * the number of its octets, which stay with their owner, and `tag` identifies it to its owner. Returns WF_OK;
- * WF_BAD_LENGTH exactly if `length` is not 1 to WF_GREATEST_BODY; else WF_BAD_ADDRESS exactly if `to` is no
- * group address (the lowest bit of its first octet is 0); or else WF_BUFFERED if `count` group frames are
- * queued, as many as the setting `buffered`, which is 0 in the standard settings. After WF_BAD_LENGTH and
- * WF_BAD_ADDRESS `reply` is unchanged. */
-int32_t wf_path_group(struct wf_path *path, const uint8_t to[6], uint16_t length, uint64_t tag, struct wf_reply *reply);
+/* Puts a group frame to the address `to` at the end of the queue of a BSS; `id` of the reply is its id.
+ * `length` is the number of its octets, which stay with their owner, and `tag` identifies it to its owner.
+ * Returns WF_OK; WF_BAD_LENGTH exactly if `length` is not 1 to WF_GREATEST_BODY; else WF_BAD_ADDRESS exactly if
+ * `to` is no group address (the lowest bit of its first octet is 0); or else WF_BAD_BSS, or WF_BUFFERED if
+ * `count` group frames of the BSS are queued, as many as the setting `buffered`, which is 0 in the standard
+ * settings. After WF_BAD_LENGTH and WF_BAD_ADDRESS `reply` is unchanged. */
+int32_t wf_path_group(struct wf_path *path, uint8_t bss, const uint8_t to[6], uint16_t length, uint64_t tag,
+                      struct wf_reply *reply);
 
-/* Reports that a beacon goes out. `count` of the reply is its DTIM count, which falls by 1 at each beacon,
- * from the setting `period` less 1 to 0, and then begins again. A beacon with the count 0 is a DTIM beacon.
- * It announces the group frames that are queued now: they may go until the next beacon, also while a station
- * sleeps. `more` of the reply is 1 if it announces any, else 0. Beacons and group frames take their sequence
- * numbers from one counter. Returns WF_OK. */
-int32_t wf_path_beacon(struct wf_path *path, struct wf_reply *reply);
+/* Reports that a beacon of a BSS goes out. `count` of the reply is its DTIM count, which falls by 1 at each
+ * beacon, from the setting `period` less 1 to 0, and then begins again. A beacon with the count 0 is a DTIM
+ * beacon. It announces the group frames that are queued now: they may go until the next beacon, also while a
+ * station sleeps. `more` of the reply is 1 if it announces any, else 0. Beacons and group frames take their
+ * sequence numbers from one counter. Returns WF_OK or WF_BAD_BSS. */
+int32_t wf_path_beacon(struct wf_path *path, uint8_t bss, struct wf_reply *reply);
 
-/* Takes the first group frame out of the queue, and writes it to `frame`. The driver then sends it. `start`
- * of the reply is its sequence number (0 to 4095), `air` its airtime in microseconds, and `more` is 1 if a
- * station sleeps and another group frame may go next. Returns WF_OK; WF_FLYING if a group frame is on the
- * air; or WF_IDLE if none is queued, or if a station sleeps and the first one was not announced by the latest
- * beacon. After an error nothing has changed, nor `frame`. */
-int32_t wf_path_group_pull(struct wf_path *path, struct wf_group *frame, struct wf_reply *reply);
+/* Takes the first group frame of a BSS out of its queue, and writes it to `frame`. The driver then sends it.
+ * `start` of the reply is its sequence number (0 to 4095), `air` its airtime in microseconds, and `more` is 1
+ * if a station of the BSS sleeps and another group frame may go next. Returns WF_OK; WF_BAD_BSS; WF_FLYING if a
+ * group frame of the BSS is on the air; or WF_IDLE if none is queued, or if a station sleeps and the first one
+ * was not announced by the latest beacon. After an error nothing has changed, nor `frame`. */
+int32_t wf_path_group_pull(struct wf_path *path, uint8_t bss, struct wf_group *frame, struct wf_reply *reply);
 
-/* Writes the header of the group frame on the air: WF_GROUP_HEADER octets, a Data frame without QoS from the
- * access point (wf_path_set_base), whose source address is `source`. The driver sends the body from its own
- * buffer, which it finds by the tag. Returns WF_OK; or WF_NOTHING if no group frame is on the air, and then
- * `out` is unchanged. */
-int32_t wf_path_group_header(const struct wf_path *path, const uint8_t source[6], uint8_t out[WF_GROUP_HEADER]);
+/* Writes the header of the group frame of a BSS on the air: WF_GROUP_HEADER octets, a Data frame without QoS
+ * from the access point's address in the BSS, whose source address is `source`. The driver sends the body from
+ * its own buffer, which it finds by the tag. Returns WF_OK; WF_BAD_BSS; or WF_NOTHING if none of its group
+ * frames is on the air. After an error `out` is unchanged. */
+int32_t wf_path_group_header(const struct wf_path *path, uint8_t bss, const uint8_t source[6], uint8_t out[WF_GROUP_HEADER]);
 
-/* Reports that the transmission of the group frame on the air has ended, and writes this frame to `frame`: it
- * belongs to its owner again. `id` of the reply is its id. Returns WF_OK; or WF_NOTHING if no group frame is
- * on the air, and then `frame` is unchanged. */
-int32_t wf_path_group_done(struct wf_path *path, struct wf_group *frame, struct wf_reply *reply);
+/* Reports that the transmission of the group frame of a BSS on the air has ended, and writes this frame to
+ * `frame`: it belongs to its owner again. `id` of the reply is its id. Returns WF_OK; WF_BAD_BSS; or WF_NOTHING
+ * if none of its group frames is on the air. After an error `frame` is unchanged. */
+int32_t wf_path_group_done(struct wf_path *path, uint8_t bss, struct wf_group *frame, struct wf_reply *reply);
 
-/* Writes how many group frames were accepted, sent, and are queued or on the air, and how many sequence numbers
- * they and the beacons took. */
-void wf_path_group_counts(const struct wf_path *path, struct wf_group_counts *counts);
+/* Writes how many group frames of a BSS were accepted, sent, and are queued or on the air, and how many sequence
+ * numbers they and the beacons took. Returns WF_OK; or WF_BAD_BSS, and then `counts` is unchanged. */
+int32_t wf_path_group_counts(const struct wf_path *path, uint8_t bss, struct wf_group_counts *counts);
 
 /* ---- service periods (U-APSD; IEEE 802.11-2012, 10.2.1.5). A station names its delivery-enabled classes when
  * it associates. While it sleeps, a trigger frame, a QoS Data or QoS Null frame of its own, opens a service
@@ -1108,19 +1123,13 @@ int32_t wf_path_flying(const struct wf_path *path, uint16_t station, uint8_t tid
  * station is not live. After an error `drained` is unchanged. */
 int32_t wf_path_drained(const struct wf_path *path, uint16_t station, uint8_t tid, uint32_t *drained);
 
-/* Writes the TIM element (IEEE 802.11-2012, 8.4.2.7), and returns its size in octets. It shows the
- * association identifiers (wf_path_set_aid) of the stations that sleep and have traffic, of all BSSs. `count`
- * is the DTIM count and `period` the DTIM period in beacons; the bit for group frames is set if `group` is
- * not 0. A driver that calls wf_path_beacon passes `count` of the latest reply, the setting `period` (1 if
- * that is 0), and `more` of that reply; before the first beacon, and without group frames, it passes 0, 1 and
- * 0. The rest of `out` is unchanged. */
-size_t wf_path_tim(const struct wf_path *path, uint8_t count, uint8_t period, uint8_t group, uint8_t out[256]);
-
-/* Writes the TIM element of one BSS as wf_path_tim does, and returns its size in octets. It shows only stations
- * whose access point has the address `bss` (wf_path_set_bss, or else wf_path_set_base). `count`, `period` and
- * `group` are as for wf_path_tim. */
-size_t wf_path_tim_of(const struct wf_path *path, const uint8_t bss[6], uint8_t count, uint8_t period, uint8_t group,
-                      uint8_t out[256]);
+/* Writes the TIM element (IEEE 802.11-2012, 8.4.2.7) of a BSS, and returns its size in octets. It shows the
+ * association identifiers (wf_path_set_aid) of the stations of the BSS that sleep and have traffic; a BSS that
+ * does not exist has none. `count` is the DTIM count and `period` the DTIM period in beacons; the bit for group
+ * frames is set if `group` is not 0. A driver that calls wf_path_beacon passes `count` of the latest reply of
+ * the BSS, the setting `period` (1 if that is 0), and `more` of that reply; before the first beacon, and
+ * without group frames, it passes 0, 1 and 0. The rest of `out` is unchanged. */
+size_t wf_path_tim(const struct wf_path *path, uint8_t bss, uint8_t count, uint8_t period, uint8_t group, uint8_t out[256]);
 
 /* ---- cells. A cell has both halves, and the history of its calls. Transmissions are octets inside: the cell
  * writes each one that arrives, passes it to the station, and reads the station's BlockAck. The conditions

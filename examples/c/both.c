@@ -13,7 +13,7 @@
 #include "words.h"
 #include "wf.h"
 
-enum { STATIONS = 6, OPEN = 32, CHARGE = 5000 };
+enum { STATIONS = 6, OPEN = 32, CHARGE = 5000, BSSES = 2 };
 
 static struct wf_cell cell;
 static struct wf_reply reply;
@@ -103,7 +103,7 @@ static uint8_t some_kind(void) {
   static const uint8_t KINDS[] = {WF_CALL_PULL, WF_CALL_PULL, WF_CALL_PULL, WF_CALL_ARRIVE, WF_CALL_ARRIVE, WF_CALL_ARRIVE, WF_CALL_ARRIVE,
                                   WF_CALL_ARRIVE, WF_CALL_ARRIVE, WF_CALL_ANSWER, WF_CALL_ANSWER, WF_CALL_DONE, WF_CALL_DONE, WF_CALL_UNSENT, WF_CALL_GIVEUP};
   static const uint8_t MODES[] = {WF_CALL_HOLD, WF_CALL_BEGIN, WF_CALL_BEGIN, WF_CALL_FREE, WF_CALL_CEASE};
-  static const uint8_t GROUPS[] = {WF_CALL_GROUP, WF_CALL_GROUP, WF_CALL_BEACON, WF_CALL_GPULL, WF_CALL_GDONE};
+  static const uint8_t GROUPS[] = {WF_CALL_GROUP, WF_CALL_GROUP, WF_CALL_BEACON, WF_CALL_GPULL, WF_CALL_GDONE, WF_CALL_BSS};
   static const uint8_t SERVICES[] = {WF_CALL_APSD, WF_CALL_TRIGGER, WF_CALL_TRIGGER, WF_CALL_EOSP};
   uint8_t kind;
   if (below(8)) return KINDS[below(sizeof KINDS)];
@@ -164,6 +164,7 @@ static void call_ask(uint32_t caller, uint16_t station) {
   call.speed = some_speed(call.form);
   call.classes = (uint8_t)below(below(50) ? 16 : 17);
   call.most = (uint8_t)below(6);
+  call.bss = (uint8_t)below(below(50) ? BSSES : BSSES + 1);
   code = wf_cell_ask(&cell, caller, &call, &reply);
   follow(call.exchange);
   write_answer(code);
@@ -244,6 +245,14 @@ static void write_pull(const struct wf_call *c) {
   fprintf(trace, "\n");
 }
 
+/* Writes a call about the group frames of a BSS. */
+static void write_group_call(const struct wf_call *c, const char *word) {
+  fprintf(trace, "%s", word);
+  if (c->kind == WF_CALL_GROUP) fprintf(trace, " %u", (unsigned)c->length);
+  if (c->bss) fprintf(trace, " %u", (unsigned)c->bss);
+  fprintf(trace, "\n");
+}
+
 /* Writes an entry of the history as a line of the trace. */
 static void write_entry(uint64_t place) {
   struct wf_call c = {0};
@@ -284,13 +293,14 @@ static void write_entry(uint64_t place) {
     case WF_CALL_BEGIN: fprintf(trace, "begin %u %u %u\n", s, (unsigned)c.tid, (unsigned)c.window); break;
     case WF_CALL_FREE: fprintf(trace, "free %u %u\n", s, (unsigned)c.tid); break;
     case WF_CALL_CEASE: fprintf(trace, "cease %u %u\n", s, (unsigned)c.tid); break;
-    case WF_CALL_GROUP: fprintf(trace, "group %u\n", (unsigned)c.length); break;
-    case WF_CALL_BEACON: fprintf(trace, "beacon\n"); break;
-    case WF_CALL_GPULL: fprintf(trace, "gpull\n"); break;
-    case WF_CALL_GDONE: fprintf(trace, "gdone\n"); break;
+    case WF_CALL_GROUP: write_group_call(&c, "group"); break;
+    case WF_CALL_BEACON: write_group_call(&c, "beacon"); break;
+    case WF_CALL_GPULL: write_group_call(&c, "gpull"); break;
+    case WF_CALL_GDONE: write_group_call(&c, "gdone"); break;
     case WF_CALL_APSD: fprintf(trace, "apsd %u %u %u\n", s, (unsigned)c.classes, (unsigned)c.most); break;
     case WF_CALL_TRIGGER: fprintf(trace, "trigger %u\n", s); break;
     case WF_CALL_EOSP: fprintf(trace, "eosp %u\n", s); break;
+    case WF_CALL_BSS: fprintf(trace, "bss %u %u\n", s, (unsigned)c.bss); break;
     default: fail("an entry of no kind");
   }
 }
@@ -308,12 +318,13 @@ static void open_cell(uint32_t calls) {
   settings.legacy = 2;
   settings.period = 2;
   settings.buffered = 5;
+  settings.bsses = BSSES;
   settings.calls = 0;
   if (wf_cell_make(&cell, &settings) != WF_BAD_SETTING + 12) fail("a history of no calls is taken");
   settings.calls = calls;
   if (wf_cell_make(&cell, &settings)) fail("there is no cell");
-  fprintf(trace, "cell stations=%d flows=32 limit=40 room=400 attempts=4 sleeping=8 charge=%d legacy=2 period=2 buffered=5\n", STATIONS,
-          CHARGE);
+  fprintf(trace, "cell stations=%d flows=32 limit=40 room=400 attempts=4 sleeping=8 charge=%d legacy=2 period=2 buffered=5 bsses=%d\n",
+          STATIONS, CHARGE, BSSES);
 }
 
 /* Checks that with a full history each call is refused and is no entry. */

@@ -40,6 +40,7 @@ static const uint32_t OUTSIDE[][2] = {
     {3u, 3u}, /* legacy */
     {256u, 256u}, /* period */
     {65536u, 65536u}, /* buffered */
+    {17u, 17u}, /* bsses */
     /* end outside */
 };
 
@@ -187,23 +188,25 @@ static void misuse_addresses(void) {
   want(wf_path_set_address(&path, 2, REAL), WF_OK, "the same address for another");
 }
 
-/* Addresses of BSSs that are group addresses, and association identifiers that are out of their range. */
+/* BSSs that do not exist, addresses of BSSs that are group addresses, and association identifiers that are out of their range. */
 static void misuse_bsses(void) {
   static const uint8_t GROUP[6] = {0x01, 0, 0x5e, 0, 0, 1}, REAL[6] = {0x00, 0, 0x5e, 0, 0x53, 2};
   uint8_t tim[256] = {0}, other[256] = {0};
-  want(wf_path_set_bss(&path, 2, GROUP), WF_BAD_ADDRESS, "a group for a BSS");
-  want(wf_path_set_bss(&path, STATIONS, REAL), WF_BAD_STATION, "the BSS of no station");
-  want(wf_path_set_bss(&path, 65535, GROUP), WF_BAD_STATION, "a group for the BSS of no station");
+  want(wf_path_set_bss(&path, 0, GROUP), WF_BAD_ADDRESS, "a group for a BSS");
+  want(wf_path_set_bss(&path, 1, REAL), WF_BAD_BSS, "the address of no BSS");
+  want(wf_path_set_bss(&path, 255, GROUP), WF_BAD_BSS, "a group for no BSS");
+  want(wf_path_set_bss(&path, 0, REAL), WF_OK, "the address of the only BSS");
+  want(wf_path_set_station_bss(&path, STATIONS, 1, &reply), WF_BAD_STATION, "the BSS of no station");
+  want(wf_path_set_station_bss(&path, 3, 1, &reply), WF_BAD_BSS, "no BSS of a station");
+  want(wf_path_set_station_bss(&path, 3, 0, &reply), WF_NO_STATION, "the BSS of a station that is not live");
+  want(wf_path_set_station_bss(&path, 2, 0, &reply), WF_OK, "the only BSS of a station");
   want(wf_path_set_aid(&path, 2, 0), WF_BAD_AID, "the association identifier 0");
   want(wf_path_set_aid(&path, 2, 2008), WF_BAD_AID, "the association identifier 2008");
   want(wf_path_set_aid(&path, STATIONS, 1), WF_BAD_STATION, "the association identifier of no station");
   want(wf_path_set_aid(&path, 65535, 0), WF_BAD_STATION, "the association identifier 0 of no station");
   want(wf_path_set_aid(&path, 3, 2007), WF_OK, "the association identifier of a station that is not live");
-  want(wf_path_set_bss(&path, 3, REAL), WF_OK, "the BSS of a station that is not live");
-  want(wf_path_tim(&path, 0, 1, 0, tim) == 6, 1, "the TIM of stations without traffic");
-  want(wf_path_tim_of(&path, REAL, 0, 1, 0, other) == 6, 1, "the TIM of a BSS without traffic");
-  unchanged(other, tim, sizeof other, "the TIM of a BSS without traffic");
-  want(wf_path_tim_of(&path, GROUP, 0, 1, 0, other) == 6, 1, "the TIM of a BSS that there is not");
+  want(wf_path_tim(&path, 0, 0, 1, 0, tim) == 6, 1, "the TIM of stations without traffic");
+  want(wf_path_tim(&path, 255, 0, 1, 0, other) == 6, 1, "the TIM of a BSS that there is not");
   unchanged(other, tim, sizeof other, "the TIM of a BSS that there is not");
 }
 
@@ -214,18 +217,25 @@ static void misuse_groups(void) {
   struct wf_group_counts counts = {0};
   struct wf_reply before = reply;
   uint8_t header[WF_GROUP_HEADER] = {0}, zeros[WF_GROUP_HEADER] = {0};
-  want(wf_path_group(&path, REAL, 0, 1, &reply), WF_BAD_LENGTH, "a group frame without octets");
-  want(wf_path_group(&path, GROUP, WF_GREATEST_BODY + 1, 1, &reply), WF_BAD_LENGTH, "a group frame that is too long");
-  want(wf_path_group(&path, REAL, 100, 1, &reply), WF_BAD_ADDRESS, "a group frame for a station");
+  want(wf_path_group(&path, 1, REAL, 0, 1, &reply), WF_BAD_LENGTH, "a group frame without octets");
+  want(wf_path_group(&path, 1, GROUP, WF_GREATEST_BODY + 1, 1, &reply), WF_BAD_LENGTH, "a group frame that is too long");
+  want(wf_path_group(&path, 1, REAL, 100, 1, &reply), WF_BAD_ADDRESS, "a group frame for a station");
   unchanged(&reply, &before, sizeof reply, "a group frame that is none");
-  want(wf_path_group(&path, GROUP, 100, 1, &reply), WF_BUFFERED, "a group frame where none may wait");
-  want(wf_path_group_pull(&path, &frame, &reply), WF_IDLE, "a group frame from an empty queue");
-  want(wf_path_group_done(&path, &frame, &reply), WF_NOTHING, "the end of no group frame");
+  want(wf_path_group(&path, 1, GROUP, 100, 1, &reply), WF_BAD_BSS, "a group frame of no BSS");
+  want(wf_path_group(&path, 0, GROUP, 100, 1, &reply), WF_BUFFERED, "a group frame where none may wait");
+  want(wf_path_group_pull(&path, 1, &frame, &reply), WF_BAD_BSS, "a group frame from the queue of no BSS");
+  want(wf_path_group_pull(&path, 0, &frame, &reply), WF_IDLE, "a group frame from an empty queue");
+  want(wf_path_group_done(&path, 1, &frame, &reply), WF_BAD_BSS, "the end of a group frame of no BSS");
+  want(wf_path_group_done(&path, 0, &frame, &reply), WF_NOTHING, "the end of no group frame");
   unchanged(&frame, &same, sizeof frame, "no group frame");
-  want(wf_path_group_header(&path, REAL, header), WF_NOTHING, "the header of no group frame");
+  want(wf_path_group_header(&path, 1, REAL, header), WF_BAD_BSS, "the header of a group frame of no BSS");
+  want(wf_path_group_header(&path, 0, REAL, header), WF_NOTHING, "the header of no group frame");
   unchanged(header, zeros, sizeof header, "the header of no group frame");
-  want(wf_path_beacon(&path, &reply), WF_OK, "a beacon");
-  wf_path_group_counts(&path, &counts);
+  want(wf_path_beacon(&path, 1, &reply), WF_BAD_BSS, "a beacon of no BSS");
+  want(wf_path_beacon(&path, 0, &reply), WF_OK, "a beacon");
+  want(wf_path_group_counts(&path, 1, &counts), WF_BAD_BSS, "the counts of no BSS");
+  want(counts.numbers == 0, 1, "the counts of no BSS");
+  want(wf_path_group_counts(&path, 0, &counts), WF_OK, "the counts of group frames");
   want(counts.accepted == 0 && counts.numbers == 1, 1, "the counts of group frames");
 }
 
@@ -422,7 +432,7 @@ static void misuse_bursts(void) {
   misuse_burst(call, WF_OK, "a mark of no exchange");
   call.kind = WF_CALL_HOLD;
   misuse_burst(call, WF_OK, "a hold of a TID with an agreement");
-  call.kind = WF_CALL_EOSP + 1;
+  call.kind = WF_CALL_BSS + 1;
   misuse_burst(call, WF_BAD_CALL, "a call of no kind");
   call.kind = WF_CALL_GROUP;
   misuse_burst(call, WF_BAD_CALL, "a group frame without octets");
@@ -865,7 +875,7 @@ static void misuse_cell(void) {
   want(wf_cell_ask(&cell, 0, &call, &reply), WF_BAD_CALL, "a frame without its body");
   call.kind = WF_CALL_REAP;
   want(wf_cell_ask(&cell, 0, &call, &reply), WF_BAD_CALL, "a reap without its struct");
-  call.kind = WF_CALL_EOSP + 1;
+  call.kind = WF_CALL_BSS + 1;
   want(wf_cell_ask(&cell, 0, &call, &reply), WF_BAD_CALL, "a call of no kind");
   call.kind = WF_CALL_GROUP;
   want(wf_cell_ask(&cell, 0, &call, &reply), WF_BAD_CALL, "a group frame without octets");

@@ -91,8 +91,8 @@ class Path {
   [[nodiscard]] std::int32_t set_address(std::uint16_t station, const std::uint8_t (&address)[6]) {
     return wf_path_set_address(&handle_, station, address);
   }
-  [[nodiscard]] std::int32_t set_bss(std::uint16_t station, const std::uint8_t (&address)[6]) {
-    return wf_path_set_bss(&handle_, station, address);
+  [[nodiscard]] std::int32_t set_bss(std::uint8_t bss, const std::uint8_t (&address)[6]) {
+    return wf_path_set_bss(&handle_, bss, address);
   }
   [[nodiscard]] std::int32_t set_aid(std::uint16_t station, std::uint16_t aid) {
     return wf_path_set_aid(&handle_, station, aid);
@@ -221,25 +221,28 @@ class Path {
     return wf_path_end_service(&handle_, station, &reply);
   }
 
-  /* Group frames and beacons. */
+  /* BSSs, and the group frames and beacons of each. */
 
-  [[nodiscard]] std::int32_t group(const std::uint8_t (&to)[6], std::uint16_t length, std::uint64_t tag, wf_reply &reply) {
-    return wf_path_group(&handle_, to, length, tag, &reply);
+  [[nodiscard]] std::int32_t set_station_bss(std::uint16_t station, std::uint8_t bss, wf_reply &reply) {
+    return wf_path_set_station_bss(&handle_, station, bss, &reply);
   }
-  [[nodiscard]] std::int32_t beacon(wf_reply &reply) { return wf_path_beacon(&handle_, &reply); }
-  [[nodiscard]] std::int32_t group_pull(wf_group &frame, wf_reply &reply) {
-    return wf_path_group_pull(&handle_, &frame, &reply);
+  [[nodiscard]] std::int32_t group(std::uint8_t bss, const std::uint8_t (&to)[6], std::uint16_t length, std::uint64_t tag,
+                                   wf_reply &reply) {
+    return wf_path_group(&handle_, bss, to, length, tag, &reply);
   }
-  [[nodiscard]] std::int32_t group_header(const std::uint8_t (&source)[6], std::uint8_t (&out)[WF_GROUP_HEADER]) const {
-    return wf_path_group_header(&handle_, source, out);
+  [[nodiscard]] std::int32_t beacon(std::uint8_t bss, wf_reply &reply) { return wf_path_beacon(&handle_, bss, &reply); }
+  [[nodiscard]] std::int32_t group_pull(std::uint8_t bss, wf_group &frame, wf_reply &reply) {
+    return wf_path_group_pull(&handle_, bss, &frame, &reply);
   }
-  [[nodiscard]] std::int32_t group_done(wf_group &frame, wf_reply &reply) {
-    return wf_path_group_done(&handle_, &frame, &reply);
+  [[nodiscard]] std::int32_t group_header(std::uint8_t bss, const std::uint8_t (&source)[6],
+                                          std::uint8_t (&out)[WF_GROUP_HEADER]) const {
+    return wf_path_group_header(&handle_, bss, source, out);
   }
-  wf_group_counts group_counts() const {
-    wf_group_counts counts{};
-    wf_path_group_counts(&handle_, &counts);
-    return counts;
+  [[nodiscard]] std::int32_t group_done(std::uint8_t bss, wf_group &frame, wf_reply &reply) {
+    return wf_path_group_done(&handle_, bss, &frame, &reply);
+  }
+  [[nodiscard]] std::int32_t group_counts(std::uint8_t bss, wf_group_counts &counts) const {
+    return wf_path_group_counts(&handle_, bss, &counts);
   }
 
   /* An open exchange, and its end. */
@@ -336,12 +339,8 @@ class Path {
   [[nodiscard]] std::int32_t drained(std::uint16_t station, std::uint8_t tid, std::uint32_t &out) const {
     return wf_path_drained(&handle_, station, tid, &out);
   }
-  std::size_t tim(std::uint8_t count, std::uint8_t period, bool group, std::uint8_t (&out)[256]) const {
-    return wf_path_tim(&handle_, count, period, group, out);
-  }
-  std::size_t tim_of(const std::uint8_t (&bss)[6], std::uint8_t count, std::uint8_t period, bool group,
-                     std::uint8_t (&out)[256]) const {
-    return wf_path_tim_of(&handle_, bss, count, period, group, out);
+  std::size_t tim(std::uint8_t bss, std::uint8_t count, std::uint8_t period, bool group, std::uint8_t (&out)[256]) const {
+    return wf_path_tim(&handle_, bss, count, period, group, out);
   }
 
  private:

@@ -19,7 +19,7 @@
 #include "wf.h"
 
 enum { STATIONS = 6, NUMBERS = 4096, OPEN = 32, CHARGE = 5000, DEBT = 9000, TICK = 10000000, ATTEMPTS = 4 };
-enum { FLOWS = 32, SETTINGS = 27, IDS = 1 << 20, AIDS = 2008, DTIM = 3, BUFFERED = 4 };
+enum { FLOWS = 32, SETTINGS = 28, IDS = 1 << 20, AIDS = 2008, DTIM = 3, BUFFERED = 4, BSSES = 3 };
 
 /* An open exchange. */
 struct exchange {
@@ -30,6 +30,7 @@ struct exchange {
   uint8_t batch;
   uint8_t plain;
   uint8_t eosp;
+  uint8_t more;
   uint32_t air;
   uint16_t start; /* of its BlockAckReq */
   struct wf_frames frames;
@@ -44,8 +45,9 @@ struct session {
 };
 
 static struct wf_path path;
-static uint8_t base[6] = {0x02}, addresses[STATIONS][6], bsses[STATIONS][6];
-static uint8_t has_bss[STATIONS]; /* by station: 1 if wf_path_set_bss has set its own */
+static uint8_t base[6] = {0x02}, addresses[STATIONS][6], bsses[BSSES][6];
+static uint8_t has_address[BSSES];  /* by BSS: 1 if wf_path_set_bss has set its own */
+static uint8_t station_bss[STATIONS]; /* the BSS of each station */
 static uint16_t aids[STATIONS];
 static struct wf_reply reply;
 static struct exchange exchanges[OPEN];
@@ -53,8 +55,8 @@ static int open_count;
 static struct session sessions[STATIONS][8];
 static uint16_t windows[STATIONS][8]; /* 1 without an agreement */
 static uint8_t given_up[IDS]; /* by id: 1 if a transmission of the frame was given up */
-static struct wf_group group_frame; /* the group frame on the air */
-static uint8_t dtim_count, announced; /* what the latest beacon said */
+static struct wf_group group_frames[BSSES]; /* the group frame on the air, by BSS */
+static uint8_t dtim_counts[BSSES], announced[BSSES]; /* what the latest beacon said, by BSS */
 static uint32_t seed;
 static long lines;
 static FILE *trace, *answers;
@@ -84,9 +86,10 @@ static void receivers_line(const char *word, uint64_t exchange, int index) {
   lines++;
 }
 
-/* Notes the window of all TIDs of a station. */
-static void note_windows(uint16_t s, uint16_t window) {
+/* Notes that a station joined: it is of BSS 0. All its TIDs have this window. */
+static void note_join(uint16_t s, uint16_t window) {
   int tid;
+  station_bss[s] = 0;
   for (tid = 0; tid < 8; tid++) windows[s][tid] = window;
 }
 
@@ -95,7 +98,7 @@ static void call_join(uint16_t s) {
   uint8_t exponent = (uint8_t)below(5), weight = (uint8_t)below(18);
   int32_t code = wf_path_join(&path, s, window, start, exponent, weight, &reply);
   fprintf(trace, "join %u %u %u %u %u\n", (unsigned)s, (unsigned)window, (unsigned)start, (unsigned)exponent, (unsigned)weight);
-  if (code == WF_OK) note_windows(s, window);
+  if (code == WF_OK) note_join(s, window);
   write_answer(code, NULL);
 }
 
@@ -104,7 +107,7 @@ static void call_plain(uint16_t s) {
   uint8_t exponent = (uint8_t)below(5), weight = (uint8_t)below(18);
   int32_t code = wf_path_plain(&path, s, start, exponent, weight, &reply);
   fprintf(trace, "plain %u %u %u %u\n", (unsigned)s, (unsigned)start, (unsigned)exponent, (unsigned)weight);
-  if (code == WF_OK) note_windows(s, 1);
+  if (code == WF_OK) note_join(s, 1);
   write_answer(code, NULL);
 }
 
@@ -112,6 +115,7 @@ static void call_join_offload(uint16_t s) {
   uint8_t exponent = (uint8_t)below(5), weight = (uint8_t)below(18);
   int32_t code = wf_path_join_offload(&path, s, exponent, weight, &reply);
   fprintf(trace, "offload %u %u %u\n", (unsigned)s, (unsigned)exponent, (unsigned)weight);
+  if (code == WF_OK) station_bss[s] = 0;
   write_answer(code, NULL);
 }
 
@@ -309,21 +313,33 @@ static void call_address(void) {
   if (memcmp(told, base, 6)) fail("another address of the access point");
 }
 
-/* Returns the address of a station's access point. */
-static const uint8_t *bss_of(uint16_t s) {
-  return has_bss[s] ? bsses[s] : base;
+/* Returns the access point's address in a BSS. */
+static const uint8_t *address_of(uint8_t bss) {
+  return has_address[bss] ? bsses[bss] : base;
 }
 
-/* Sets the address of a station's access point; sometimes a group address, or one for a station number that does not
- * exist. The trace does not have it. */
-static void call_bss(void) {
-  uint8_t address[6] = {(uint8_t)(below(8) ? 6 : 7), 0, 0x5e, 0, 0x53, (uint8_t)below(3)};
-  uint16_t s = (uint16_t)below(STATIONS + 1);
-  int32_t wanted = s == STATIONS ? WF_BAD_STATION : address[0] % 2 ? WF_BAD_ADDRESS : WF_OK;
-  if (wf_path_set_bss(&path, s, address) != wanted) fail("another code of the address of a BSS");
+/* Returns a BSS, sometimes one that does not exist. */
+static uint8_t some_bss(void) {
+  return (uint8_t)below(below(50) ? BSSES : BSSES + 1);
+}
+
+/* Sets the access point's address in a BSS; sometimes a group address, or one for a BSS that does not exist. The trace
+ * does not have it. */
+static void call_bss_address(void) {
+  uint8_t address[6] = {(uint8_t)(below(8) ? 6 : 7), 0, 0x5e, 0, 0x53, (uint8_t)below(3)}, bss = some_bss();
+  int32_t wanted = bss == BSSES ? WF_BAD_BSS : address[0] % 2 ? WF_BAD_ADDRESS : WF_OK;
+  if (wf_path_set_bss(&path, bss, address) != wanted) fail("another code of the address of a BSS");
   if (wanted) return;
-  memcpy(bsses[s], address, 6);
-  has_bss[s] = 1;
+  memcpy(bsses[bss], address, 6);
+  has_address[bss] = 1;
+}
+
+static void call_bss(uint16_t s) {
+  uint8_t bss = some_bss();
+  int32_t code = wf_path_set_station_bss(&path, s, bss, &reply);
+  fprintf(trace, "bss %u %u\n", (unsigned)s, (unsigned)bss);
+  if (code == WF_OK) station_bss[s] = bss;
+  write_answer(code, NULL);
 }
 
 /* Sets the association identifier of a station; sometimes one that is out of its range, or one for a station number
@@ -344,24 +360,19 @@ static void note_tim(const uint8_t tim[256], size_t size, uint8_t shown[AIDS]) {
   }
 }
 
-/* Checks that the TIM elements of all BSSs show together what that of the path shows, each for its own stations. */
+/* Checks that the TIM element of each BSS shows stations of this BSS alone. One that does not exist has none. */
 static void look_at_tims(void) {
-  uint8_t whole[AIDS] = {0}, together[AIDS] = {0}, tim[256] = {0};
-  uint16_t s;
-  note_tim(tim, wf_path_tim(&path, 1, 5, 0, tim), whole);
-  if (tim[2] != 1 || tim[3] != 5 || tim[4] % 2) fail("another count or period in the TIM, or a bit");
-  for (s = 0; s < STATIONS; s++) {
-    uint8_t shown[AIDS] = {0};
-    uint16_t other;
-    note_tim(tim, wf_path_tim_of(&path, bss_of(s), 0, 255, 2, tim), shown);
-    if (tim[2] != 0 || tim[3] != 255 || tim[4] % 2 == 0) fail("another count or period in the TIM of a BSS, or no bit");
-    if (whole[aids[s]] == 0 && shown[aids[s]]) fail("a station in the TIM of its BSS alone");
-    for (other = 0; other < STATIONS; other++) {
-      if (memcmp(bss_of(s), bss_of(other), 6) == 0 && shown[aids[other]]) together[aids[other]] = 1, shown[aids[other]] = 0;
+  uint8_t tim[256] = {0}, bss;
+  for (bss = 0; bss <= BSSES; bss++) {
+    uint8_t shown[AIDS] = {0}, group = bss % 2 ? 2 : 0;
+    uint16_t s;
+    note_tim(tim, wf_path_tim(&path, bss, bss, 255, group, tim), shown);
+    if (tim[2] != bss || tim[3] != 255 || tim[4] % 2 != bss % 2) fail("another count, period or bit in the TIM");
+    for (s = 0; s < STATIONS; s++) {
+      if (wf_path_live(&path, s) && station_bss[s] == bss) shown[aids[s]] = 0;
     }
     if (memcmp(shown, (uint8_t[AIDS]){0}, AIDS)) fail("a station in the TIM of another BSS");
   }
-  if (memcmp(whole, together, AIDS)) fail("a station in no TIM of a BSS");
 }
 
 /* Compares the header and the tag of a transmission with its octets. Both have the station's number. */
@@ -372,8 +383,9 @@ static void look_at_parts(const struct exchange *x, uint16_t index) {
   uint64_t tag = 0;
   if (wf_path_mpdu(&path, x->number, index, whole, sizeof whole, &size)) fail("no octets");
   if (memcmp(whole + 4, addresses[x->station], 6)) fail("another address on the air");
-  if (memcmp(whole + 10, bss_of(x->station), 6)) fail("another access point on the air");
+  if (memcmp(whole + 10, address_of(station_bss[x->station]), 6)) fail("another access point on the air");
   if (whole[24] != (is_end ? x->tid + 16 : x->tid)) fail("another TID or EOSP bit on the air");
+  if ((whole[1] & 0x20) != (x->more || (x->eosp && !is_end) ? 0x20 : 0)) fail("another More Data bit on the air");
   if (wf_path_header(&path, x->number, index, header) || memcmp(header, whole, WF_HEADER)) fail("another header");
   if (wf_path_frame_tag(&path, x->number, index, &tag) || (tag & 0xffff) != (size - WF_HEADER)) fail("another tag on the air");
 }
@@ -441,6 +453,7 @@ static void call_pull(void) {
   x->batch = reply.batch;
   x->plain = reply.plain;
   x->eosp = reply.eosp;
+  x->more = reply.more;
   x->air = reply.air;
   x->start = reply.start;
   if (x->batch && x->request) fail("a batch that is a request");
@@ -768,59 +781,75 @@ static void call_other(uint16_t s) {
   write_answer(code, NULL);
 }
 
+/* Ends the line of a call about the group frames of a BSS. */
+static void end_line(uint8_t bss) {
+  if (bss) fprintf(trace, " %u", (unsigned)bss);
+  fprintf(trace, "\n");
+}
+
 /* Accepts a group frame for one of two addresses. Its tag has its length. */
-static void call_group(void) {
+static void call_group(uint8_t bss) {
   uint8_t to[6] = {0x01, 0, 0x5e, 0, 0, (uint8_t)below(2)};
   uint16_t length = (uint16_t)(1 + below(WF_GREATEST_BODY));
-  int32_t code = wf_path_group(&path, to, length, (uint64_t)length << 8 | to[5], &reply);
-  fprintf(trace, "group %u\n", (unsigned)length);
+  int32_t code = wf_path_group(&path, bss, to, length, (uint64_t)length << 8 | to[5], &reply);
+  fprintf(trace, "group %u", (unsigned)length);
+  end_line(bss);
   write_answer(code, NULL);
 }
 
-/* Checks the header of the group frame on the air by the answer to its pull. */
-static void look_at_the_group_header(void) {
+/* Checks the header of the group frame of a BSS on the air by the answer to its pull. */
+static void look_at_the_group_header(uint8_t bss) {
   static const uint8_t SOURCE[6] = {0x02, 0, 0, 9, 9, 9};
   uint8_t header[WF_GROUP_HEADER] = {0};
-  if (wf_path_group_header(&path, SOURCE, header)) fail("no header of a group frame");
+  if (wf_path_group_header(&path, bss, SOURCE, header)) fail("no header of a group frame");
   if (header[0] != 8 || header[1] != (reply.more ? 0x22 : 2) || header[2] || header[3]) fail("another frame control of a group frame");
-  if (memcmp(header + 4, group_frame.to, 6) || memcmp(header + 10, base, 6) || memcmp(header + 16, SOURCE, 6)) fail("another address of a group frame");
+  if (memcmp(header + 4, group_frames[bss].to, 6) || memcmp(header + 16, SOURCE, 6)) fail("another address of a group frame");
+  if (memcmp(header + 10, address_of(bss), 6)) fail("the address of another BSS in a group frame");
   if (header[22] != (uint8_t)(reply.start << 4) || header[23] != reply.start >> 4) fail("another number of a group frame");
 }
 
-static void call_group_pull(void) {
-  int32_t code = wf_path_group_pull(&path, &group_frame, &reply);
-  fprintf(trace, "gpull\n");
+static void call_group_pull(uint8_t bss) {
+  struct wf_group frame = {0};
+  int32_t code = wf_path_group_pull(&path, bss, &frame, &reply);
+  fprintf(trace, "gpull");
+  end_line(bss);
   write_answer(code, NULL);
   if (code) return;
-  if (group_frame.id != reply.id || group_frame.tag != ((uint64_t)group_frame.length << 8 | group_frame.to[5])) fail("another group frame");
-  look_at_the_group_header();
+  if (frame.id != reply.id || frame.tag != ((uint64_t)frame.length << 8 | frame.to[5])) fail("another group frame");
+  group_frames[bss] = frame;
+  look_at_the_group_header(bss);
 }
 
-static void call_group_done(void) {
+static void call_group_done(uint8_t bss) {
   struct wf_group frame = {0};
-  int32_t code = wf_path_group_done(&path, &frame, &reply);
-  fprintf(trace, "gdone\n");
+  const struct wf_group *flying = &group_frames[bss % BSSES];
+  int32_t code = wf_path_group_done(&path, bss, &frame, &reply);
+  fprintf(trace, "gdone");
+  end_line(bss);
   write_answer(code, NULL);
-  if (code == WF_OK && (frame.id != reply.id || frame.tag != group_frame.tag || memcmp(frame.to, group_frame.to, 6))) fail("the end of another group frame");
+  if (code == WF_OK && (frame.id != reply.id || frame.tag != flying->tag || memcmp(frame.to, flying->to, 6))) fail("the end of another group frame");
 }
 
-static void call_beacon(void) {
-  int32_t code = wf_path_beacon(&path, &reply);
-  fprintf(trace, "beacon\n");
+static void call_beacon(uint8_t bss) {
+  int32_t code = wf_path_beacon(&path, bss, &reply);
+  fprintf(trace, "beacon");
+  end_line(bss);
   write_answer(code, NULL);
-  dtim_count = (uint8_t)reply.count;
-  announced = reply.more;
+  if (code) return;
+  dtim_counts[bss] = (uint8_t)reply.count;
+  announced[bss] = reply.more;
 }
 
-/* Makes a call about group frames, and checks that these add up. */
+/* Makes a call about the group frames of a BSS, and checks that these add up. */
 static void call_about_groups(void) {
   struct wf_group_counts counts = {0};
   uint32_t which = below(6);
-  if (which < 2) call_group();
-  else if (which < 4) call_group_pull();
-  else if (which < 5) call_group_done();
-  else call_beacon();
-  wf_path_group_counts(&path, &counts);
+  uint8_t bss = some_bss();
+  if (which < 2) call_group(bss);
+  else if (which < 4) call_group_pull(bss);
+  else if (which < 5) call_group_done(bss);
+  else call_beacon(bss);
+  if (wf_path_group_counts(&path, bss, &counts) != (bss == BSSES ? WF_BAD_BSS : WF_OK)) fail("another code of the counts of group frames");
   if (counts.accepted != counts.sent + counts.queued + counts.flying || counts.queued > BUFFERED) fail("group frames that do not add up");
 }
 
@@ -849,10 +878,11 @@ static void call(void) {
   uint16_t s = (uint16_t)below(below(100) ? STATIONS : STATIONS + 1);
   uint32_t which = below(100);
   if (below(50) == 0) call_address();
-  if (below(50) == 0) call_bss(), call_aid(), look_at_tims();
+  if (below(50) == 0) call_bss_address(), call_aid(), look_at_tims();
   if (below(25) == 0) call_mark();
   if (below(10) == 0) call_about_groups();
   if (below(10) == 0) call_about_services(s);
+  if (below(25) == 0) call_bss(s);
   if (which < 39) call_enqueue(s);
   else if (which < 57) call_pull();
   else if (which < 75) call_done();
@@ -873,15 +903,26 @@ static uint64_t held_of(const struct wf_tally *t) {
   return t->accepted - t->acked - t->overlimit - t->codel - t->retries - t->left - t->flushed - t->ended;
 }
 
-/* Writes the summary of docs/TRACE.md. A trace has the placeholder association identifiers. */
-static void summary(void) {
-  struct wf_tally t = {0};
-  struct wf_share share = {0};
+/* Writes the lines of the summary about a BSS. A trace has the placeholder association identifiers. */
+static void bss_lines(uint8_t bss) {
   struct wf_group_counts groups = {0};
   uint8_t tim[256] = {0};
   size_t i, size;
+  if (wf_path_group_counts(&path, bss, &groups)) fail("no counts of group frames");
+  fprintf(answers, "group %llu sent %llu held %lu air %llu bss %u\n", (unsigned long long)groups.accepted, (unsigned long long)groups.sent,
+          (unsigned long)(groups.queued + groups.flying), (unsigned long long)groups.air, (unsigned)bss);
+  size = wf_path_tim(&path, bss, dtim_counts[bss], DTIM, announced[bss], tim);
+  fprintf(answers, "tim ");
+  for (i = 0; i < size; i++) fprintf(answers, "%02x", tim[i]);
+  fprintf(answers, " bss %u\n", (unsigned)bss);
+}
+
+/* Writes the summary of docs/TRACE.md. */
+static void summary(void) {
+  struct wf_tally t = {0};
+  struct wf_share share = {0};
   uint16_t s;
-  uint8_t c;
+  uint8_t c, bss;
   wf_path_tally(&path, &t);
   fprintf(answers, "calls %ld\nnow %llu\n", lines, (unsigned long long)wf_path_now(&path));
   fprintf(answers, "frames %llu acked %llu overlimit %llu codel %llu retries %llu left %llu held %llu", (unsigned long long)t.accepted,
@@ -902,13 +943,7 @@ static void summary(void) {
   for (s = 0; s < STATIONS; s++) {
     if (wf_path_set_aid(&path, s, (uint16_t)(s + 1))) fail("no placeholder for an association identifier");
   }
-  wf_path_group_counts(&path, &groups);
-  fprintf(answers, "group %llu sent %llu held %lu air %llu\n", (unsigned long long)groups.accepted, (unsigned long long)groups.sent,
-          (unsigned long)(groups.queued + groups.flying), (unsigned long long)groups.air);
-  size = wf_path_tim(&path, dtim_count, DTIM, announced, tim);
-  fprintf(answers, "tim ");
-  for (i = 0; i < size; i++) fprintf(answers, "%02x", tim[i]);
-  fprintf(answers, "\n");
+  for (bss = 0; bss < BSSES; bss++) bss_lines(bss);
 }
 
 /*
@@ -957,6 +992,7 @@ static void open_path(void) {
   settings.legacy = 2;
   settings.period = DTIM;
   settings.buffered = BUFFERED;
+  settings.bsses = BSSES;
   if (wf_path_make(&path, &settings)) fail("there is no path");
   write_settings(&settings);
   for (s = 0; s < STATIONS; s++) {

@@ -3,11 +3,11 @@
 use Rattle.std.proofs.Common.{◌≡◌, ℕ, ◌<◌, ◌≤◌, nat_eq, nat_lt, Bool, true, false, refl, arith}
 use Rattle.std.specs.Prelude.{Some, None}
 use Rattle.std.proofs.lemmas.Bool.Decides.{nat_tests}
-use Rattle.wf_frame.specs.Calls.{call_numbered, limits, no_limits}
+use Rattle.wf_frame.specs.Calls.{call_numbered, in_bss, limits, no_limits}
 use Rattle.wf_frame.specs.Classes.{all_classes, class_among, class_number}
 use Rattle.wf_frame.specs.declared.classes.Class.{Class}
 use Rattle.wf_frame.specs.declared.notes.Note.TheVariants.{Enqueue, Asked}
-use Rattle.wf_frame.specs.declared.notes.Ask.TheVariants.{Join, Leave, Rate, Tick, Pull, Arrive, Answer, Done, Sleep, Wake, Poll, Rx, Reap, Ampdu, Stop, Start, Unsent, GiveUp, Flush, Offload, Weight, Plain, Hold, Begin, Free, Cease, Group, Service}
+use Rattle.wf_frame.specs.declared.notes.Ask.TheVariants.{Join, Leave, Rate, Tick, Pull, Arrive, Answer, Done, Sleep, Wake, Poll, Rx, Reap, Ampdu, Stop, Start, Unsent, GiveUp, Flush, Offload, Weight, Plain, Hold, Begin, Free, Cease, Group, Service, Bss}
 use Rattle.wf_frame.specs.declared.notes.GroupAsk.TheVariants as group
 use Rattle.wf_frame.specs.declared.notes.ServiceAsk.TheVariants as service
 use Rattle.wf_frame.specs.declared.notes.AskedRate.TheVariants.{Ht, Vht, He, Ofdm, Dsss}
@@ -195,18 +195,21 @@ pub fields_of_cease : (station tid : ℕ) →
     ≡ record blank_call { kind = 26; station = station; tid = tid }
 fields_of_cease station tid = refl
 
-pub fields_of_group : (len : ℕ) →
-    numbers_of_call (Asked (Group (group.Accept len))) ≡ record blank_call { kind = 27; length = len }
-fields_of_group len = refl
+pub fields_of_group : (len bss : ℕ) → numbers_of_call (Asked (Group (in_bss bss (group.Accept len))))
+    ≡ record blank_call { kind = 27; length = len; bss = bss }
+fields_of_group len bss = refl
 
-pub fields_of_beacon : numbers_of_call (Asked (Group group.Beacon)) ≡ record blank_call { kind = 28 }
-fields_of_beacon = refl
+pub fields_of_beacon : (bss : ℕ) → numbers_of_call (Asked (Group (in_bss bss group.Beacon)))
+    ≡ record blank_call { kind = 28; bss = bss }
+fields_of_beacon bss = refl
 
-pub fields_of_gpull : numbers_of_call (Asked (Group group.Pull)) ≡ record blank_call { kind = 29 }
-fields_of_gpull = refl
+pub fields_of_gpull : (bss : ℕ) → numbers_of_call (Asked (Group (in_bss bss group.Pull)))
+    ≡ record blank_call { kind = 29; bss = bss }
+fields_of_gpull bss = refl
 
-pub fields_of_gdone : numbers_of_call (Asked (Group group.Done)) ≡ record blank_call { kind = 30 }
-fields_of_gdone = refl
+pub fields_of_gdone : (bss : ℕ) → numbers_of_call (Asked (Group (in_bss bss group.Done)))
+    ≡ record blank_call { kind = 30; bss = bss }
+fields_of_gdone bss = refl
 
 pub fields_of_apsd : (station classes most : ℕ) →
     numbers_of_call (Asked (Service (service.Set station classes most)))
@@ -222,6 +225,10 @@ pub fields_of_eosp : (station : ℕ) →
     numbers_of_call (Asked (Service (service.End station)))
     ≡ record blank_call { kind = 33; station = station }
 fields_of_eosp station = refl
+
+pub fields_of_bss : (station bss : ℕ) →
+    numbers_of_call (Asked (Bss station bss)) ≡ record blank_call { kind = 34; station = station; bss = bss }
+fields_of_bss station bss = refl
 
 -- ---- the call of fields
 
@@ -274,21 +281,22 @@ pub record Rows (c : CallNumbers) : Type 0 where
   pub free : asked (record c { kind = 25 }) ≡ Some (Free c.station c.tid)
   pub cease : asked (record c { kind = 26 }) ≡ Some (Cease c.station c.tid)
   pub group_call : 1 ≤ c.length → c.length ≤ 2304 →
-      asked (record c { kind = 27 }) ≡ Some (Group (group.Accept c.length))
+      asked (record c { kind = 27 }) ≡ Some (Group (in_bss c.bss (group.Accept c.length)))
   pub empty_group : asked (record c { kind = 27; length = 0 }) ≡ None
   pub long_group : (n : ℕ) → 2304 < n → asked (record c { kind = 27; length = n }) ≡ None
-  pub beacon : asked (record c { kind = 28 }) ≡ Some (Group group.Beacon)
-  pub gpull : asked (record c { kind = 29 }) ≡ Some (Group group.Pull)
-  pub gdone : asked (record c { kind = 30 }) ≡ Some (Group group.Done)
+  pub beacon : asked (record c { kind = 28 }) ≡ Some (Group (in_bss c.bss group.Beacon))
+  pub gpull : asked (record c { kind = 29 }) ≡ Some (Group (in_bss c.bss group.Pull))
+  pub gdone : asked (record c { kind = 30 }) ≡ Some (Group (in_bss c.bss group.Done))
   pub apsd : asked (record c { kind = 31 }) ≡ Some (Service (service.Set c.station c.classes c.most))
   pub trigger : asked (record c { kind = 32 }) ≡ Some (Service (service.Trigger c.station))
   pub eosp : asked (record c { kind = 33 }) ≡ Some (Service (service.End c.station))
-  pub no_call : (n : ℕ) → 33 < n → asked (record c { kind = n }) ≡ None
+  pub bss : asked (record c { kind = 34 }) ≡ Some (Bss c.station c.bss)
+  pub no_call : (n : ℕ) → 34 < n → asked (record c { kind = n }) ≡ None
 
 above : (n k : ℕ) → k < n → nat_eq n k ≡ false
 above n k less = grind (arith, nat_tests)
 
-none_numbered : (n : ℕ) → 33 < n → call_numbered n ≡ None
+none_numbered : (n : ℕ) → 34 < n → call_numbered n ≡ None
 none_numbered n less = grind (arith, nat_tests)
 
 is_class : (n : ℕ) → n ≤ 3 → nat_lt 3 n ≡ false
@@ -359,5 +367,6 @@ rows c = record {
   apsd = refl;
   trigger = refl;
   eosp = refl;
+  bss = refl;
   no_call = λ n less. rw (none_numbered n less) refl;
 }

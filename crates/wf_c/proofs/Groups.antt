@@ -3,6 +3,7 @@
 use Rattle.std.proofs.Common.{◌≡◌, refl, ap, sym, ◌∙◌, subst, ℕ, List, arith, true, false}
 use Rattle.std.specs.Prelude.{Result, Ok, Err, IfErr, OnOk}
 use Rattle.wf_frame.specs.Answers.{reply_of, reply_with}
+use Rattle.wf_frame.specs.Calls.{in_bss}
 use Rattle.wf_frame.specs.Frames.{FrameValue}
 use Rattle.wf_frame.specs.declared.answers.Brief.{Brief}
 use Rattle.wf_frame.specs.declared.notes.Ask.{Ask}
@@ -15,8 +16,8 @@ use Rattle.wf_frame.specs.declared.notes.ReplyNote.{ReplyNote}
 use Rattle.wf_frame.specs.declared.notes.ReplyNote.TheVariants as reply
 use Rattle.wf_def_world.specs.World.{World}
 use Rattle.wf_send_half.specs.Replies.{reply_of_result}
+use Rattle.wf_send_half_model.specs.Changes.{after_group_call}
 use Rattle.wf_send_half_model.specs.Standing.{StandsFor, Meets}
-use Rattle.wf_send_parts.specs.Group.{with_group_frame}
 use Rattle.wf_path.specs.Jobs.{bodies_after, changes_nothing, with_released}
 use Rattle.wf_path.specs.Paths.{PathValue, IsPath}
 use Rattle.wf_path.specs.declared.job.Job.TheVariants.{Call}
@@ -42,20 +43,20 @@ stays p q (Ok id) refused e = absurd (cc e)
 stays p q (Err reason) refused e = refused
 
 -- a result that is no refusal has queued the frame
-queues : (p q : PathValue) (len tag : ℕ) (to : List ℕ) (r : Result ℕ Refusal) →
-    OnOk r (q ≡ record p { half = record p.half { group = with_group_frame len tag to p.half.group } }) →
-    is_refusal (accepted_brief r) ≡ false → q.half.group ≡ with_group_frame len tag to p.half.group
-queues p q len tag to (Ok id) queued e = ap (λ (x : PathValue). x.half.group) queued
-queues p q len tag to (Err reason) queued e = absurd (cc e)
+queues : (p q : PathValue) (b len tag : ℕ) (to : List ℕ) (r : Result ℕ Refusal) →
+    OnOk r (q ≡ record p { half = after_group_call p.half (in_bss b (Accept len)) tag to }) →
+    is_refusal (accepted_brief r) ≡ false → q.half ≡ after_group_call p.half (in_bss b (Accept len)) tag to
+queues p q b len tag to (Ok id) queued e = ap (λ (x : PathValue). x.half) queued
+queues p q b len tag to (Err reason) queued e = absurd (cc e)
 
--- h is the handle before, q its path after the call, b the answer, and r the result
-module _ (h : Held) (q : PathValue) (b : Brief) (len tag : ℕ) (to : List ℕ) (shown : Reply)
+-- h is the handle before, q its path after the call about BSS n, b the answer, and r the result
+module _ (h : Held) (q : PathValue) (b : Brief) (n len tag : ℕ) (to : List ℕ) (shown : Reply)
     (r : Result ℕ Refusal) (answered : b ≡ accepted_brief r) where
   abbrev after : Held
   after = record h { path = q; answer = record h.answer { brief = b } }
 
   abbrev ask : Ask
-  ask = Group (Accept len)
+  ask = Group (in_bss n (Accept len))
 
   replied : reply_of after.answer ≡ told r
   replied = ap (λ (z : Brief). reply_with z h.answer.pairs h.answer.ids) answered
@@ -63,11 +64,9 @@ module _ (h : Held) (q : PathValue) (b : Brief) (len tag : ℕ) (to : List ℕ) 
 
   pub group_accepted : ((w : World) (bodies : ℕ → FrameValue) → StandsFor h.path.half w bodies →
       Meets w bodies (Asked ask) q.half (told r)) →
-      OnOk r (q ≡ record h.path {
-        half = record h.path.half { group = with_group_frame len tag to h.path.half.group };
-      }) →
+      OnOk r (q ≡ record h.path { half = after_group_call h.path.half (in_bss n (Accept len)) tag to }) →
       IfErr r (λ _. q ≡ h.path) → q.addresses ≡ h.path.addresses → IsPath q.half →
-      shown ≡ numbers_of b → IsGroupAccepted h len tag to after shown
+      shown ≡ numbers_of b → IsGroupAccepted h n len tag to after shown
   group_accepted meets queued refused addresses path shows = record {
     called = record {
       meets = λ w bodies stands _. subst (λ (z : ReplyNote).
@@ -79,5 +78,5 @@ module _ (h : Held) (q : PathValue) (b : Brief) (len tag : ℕ) (to : List ℕ) 
       path = path;
       shows = shows;
     };
-    queued = λ e. queues h.path q len tag to r queued (ap is_refusal (sym answered) ∙ e);
+    queued = λ e. queues h.path q n len tag to r queued (ap is_refusal (sym answered) ∙ e);
   }

@@ -48,6 +48,7 @@ blank_call = record {
   speed = 0;
   classes = 0;
   most = 0;
+  bss = 0;
 }
 
 -- ---- the fields of arguments
@@ -98,6 +99,8 @@ value_in c argument.Allowed = value.Long c.air
 value_in c argument.Octets = value.Long c.octets
 value_in c argument.Classes = value.Octet c.classes
 value_in c argument.Most = value.Octet c.most
+value_in c argument.Bss = value.Octet c.bss
+value_in c argument.NewBss = value.Octet c.bss
 
 -- the fields after they are set to this value of an argument
 abbrev pub with_argument : CallNumbers → Argument → Value → CallNumbers
@@ -129,6 +132,8 @@ with_argument c argument.Allowed (value.Long n) = record c { air = n }
 with_argument c argument.Octets (value.Long n) = record c { octets = n }
 with_argument c argument.Classes (value.Octet n) = record c { classes = n }
 with_argument c argument.Most (value.Octet n) = record c { most = n }
+with_argument c argument.Bss (value.Octet n) = record c { bss = n }
+with_argument c argument.NewBss (value.Octet n) = record c { bss = n }
 with_argument c _ _ = c
 
 -- the fields after they are set to these values of several arguments

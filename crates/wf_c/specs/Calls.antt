@@ -42,7 +42,7 @@ Becomes R _ _ = ⊥
 -- The effect of a call without a frame: h before, k after, and the caller's struct.
 --
 --   meets      for each world that the path represented, and in which a path may make the call, it is the
---              machine's step, with the machine's reply, but for the frames that a receiver releases when an
+--              machine's step, with the machine's reply, except the frames that a receiver releases when an
 --              agreement ends, of which a path does not know; the frames that the call sends have one more
 --              attempt, and the frame of a transmission that never went on the air has one less
 --   refused    a refused call changes nothing, except a pull that finds no ready station

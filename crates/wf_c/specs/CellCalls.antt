@@ -45,8 +45,8 @@ TurnsInto R _ _ = ⊥
 --
 --   past       if there is room, the history has the call,
 --   reply      and the answer is the machine's
---   stands     with whatever bodies the path represented the world before, it represents the world after the
---              history
+--   stands     for all bodies with which the path represented the world before, it represents the world after
+--              the history
 --   bodies     an accepted frame adds the body of its id, and a reaped frame removes it; all other bodies are
 --              unchanged
 --   full       if there is no room, the call is refused,

@@ -7,7 +7,7 @@ use Rattle.wf_c.specs.declared.settings.Settings.{Settings}
 
 -- the place of the first reserved number: it follows the settings
 abbrev pub first_reserved : ℕ
-first_reserved = 28
+first_reserved = 29
 
 -- the place of the first reserved number that is not 0, if any
 abbrev pub first_set : List ℕ → Option ℕ
@@ -49,6 +49,7 @@ config_of s = record {
   legacy = s.legacy;
   period = s.period;
   buffered = s.buffered;
+  bsses = s.bsses;
 }
 
 -- end settings

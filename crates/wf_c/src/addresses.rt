@@ -25,6 +25,7 @@ pub(crate) fn code_of(named: Result<(), BadAddress>) -> i32
     match named {
         Ok(()) => 0,
         Err(BadAddress::NoStation) => refusal_code(Refusal::BadStation),
+        Err(BadAddress::BadBss) => refusal_code(Refusal::BadBss),
         Err(BadAddress::Group) => BAD_ADDRESS,
     }
 }

@@ -71,7 +71,7 @@ pub use bare::wf_path_enqueue_bare;
 pub use bare::wf_path_reserve;
 pub use bss::wf_path_set_aid;
 pub use bss::wf_path_set_bss;
-pub use bss::wf_path_tim_of;
+pub use bss::wf_path_set_station_bss;
 pub use burst::wf_path_burst;
 pub use cell::answers::Block;
 pub use cell::answers::PassedUp;

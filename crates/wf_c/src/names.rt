@@ -179,7 +179,7 @@ fn word_of_fate(fate: u32) -> &'static [u8]
     }
 }
 
-/// Writes the word for a setting, by its place, 1 to 27; `?` for any other number.
+/// Writes the word for a setting, by its place, 1 to 28; `?` for any other number.
 #[unsafe(no_mangle)]
 pub extern "C" fn wf_setting_name(place: i32, name: &mut [u8; 16])
     ensures { name.new ≡ name_text (word_at setting_word_at place) }

@@ -1,6 +1,6 @@
 //! Reading a path, without a call of the machine.
 
-ghost use Rattle.std.specs.Prelude.{◌≡◌, ◌<◌, ◌⊎◌, ℕ, None, true, is_none, is_some, pos, length, take, drop, IfOk, IfSome, IfNone};
+ghost use Rattle.std.specs.Prelude.{◌≡◌, ◌<◌, ◌⊎◌, ℕ, true, is_none, is_some, pos, length, take, drop, IfOk, IfSome, IfNone};
 ghost use Rattle.std.specs.Result.{result_err};
 ghost use Rattle.wf_frame.specs.Frames.{FrameValue};
 ghost use Rattle.wf_frame.specs.declared.notes.Ask.TheVariants.{Pull};
@@ -338,7 +338,7 @@ pub extern "C" fn wf_path_waiting(
 }
 
 // The fields of a TIM element that a caller gives.
-pub(crate) fn given_tim(count: u8, period: u8, group: u8) -> Tim
+fn given_tim(count: u8, period: u8, group: u8) -> Tim
     ensures { result ≡ tim_given count period group }
 {
     Tim {
@@ -348,12 +348,13 @@ pub(crate) fn given_tim(count: u8, period: u8, group: u8) -> Tim
     }
 }
 
-/// Writes the TIM element (IEEE 802.11-2012, 8.4.2.7) of the live stations that sleep and have traffic, with
-/// this DTIM count, this DTIM period in beacons, and the bit for group frames if `group` is not 0. Returns
-/// its size in octets.
+/// Writes the TIM element (IEEE 802.11-2012, 8.4.2.7) of the live stations of a BSS that sleep and have
+/// traffic, with this DTIM count, this DTIM period in beacons, and the bit for group frames if `group` is not
+/// 0. A BSS that does not exist has no stations. Returns the element's size in octets.
 #[unsafe(no_mangle)]
 pub extern "C" fn wf_path_tim(
     path: &mut PathSlot,
+    bss: u8,
     count: u8,
     period: u8,
     group: u8,
@@ -362,10 +363,10 @@ pub extern "C" fn wf_path_tim(
     requires open { is_some path.old.value ≡ true }
     ensures octets { (w : World) (bodies : ℕ → FrameValue) → HoldsFor path.old.value w bodies →
         take result out.new ≡ tim_shown (tim_given count period group)
-        (addresses_held path.old.value) None w }
+        (addresses_held path.old.value) bss w }
     ensures rest { drop result out.new ≡ drop result out.old }
     ensures unchanged { path.new.value ≡ path.old.value }
 {
     let tim = given_tim(count, period, group);
-    path.held().path.tim_with(tim, None, out)
+    path.held().path.tim_with(tim, bss, out)
 }

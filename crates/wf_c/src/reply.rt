@@ -42,7 +42,7 @@ pub struct Reply {
     pub failed: u16,
     /// The kind of answer: 0 to 29.
     pub kind: u8,
-    /// Why the call was refused: 1 to 42, or 0 if it was not.
+    /// Why the call was refused: 1 to 43, or 0 if it was not.
     pub refusal: u8,
     /// The TID to send for: 0 to 7.
     pub tid: u8,

@@ -7,7 +7,7 @@ ghost use Rattle.wf_c.specs.Making.{bad_place, config_of, first_set};
 use wf_frame::Config;
 
 // The place of the first reserved number: it follows the settings.
-const FIRST_RESERVED: u8 = 28;
+const FIRST_RESERVED: u8 = 29;
 
 /// The settings of a path: those of `wf_frame::Config`, in its order, with the same units and ranges.
 #[repr(C)]
@@ -41,9 +41,10 @@ pub struct Settings {
     pub legacy: u32,
     pub period: u32,
     pub buffered: u32,
+    pub bsses: u32,
     // end fields
     /// Room for later settings: each has to be 0.
-    pub reserved: [u32; 5],
+    pub reserved: [u32; 4],
 }
 
 impl Settings {
@@ -80,6 +81,7 @@ impl Settings {
             legacy: self.legacy,
             period: self.period,
             buffered: self.buffered,
+            bsses: self.bsses,
             // end config
         }
     }
@@ -108,7 +110,7 @@ impl Settings {
     // The index of the first reserved number that is not 0.
     fn first_set(&self) -> Option<usize>
         ensures index { result ≡ position (λ number. not (number == 0)) self.now.reserved }
-        ensures inside { IfSome result (λ i. i < 5) }
+        ensures inside { IfSome result (λ i. i < 4) }
     {
         self.reserved.iter().position(|number| *number != 0)
     }
@@ -117,7 +119,7 @@ impl Settings {
 // The settings as the caller's struct has them.
 fn shown(config: &Config) -> Settings
     ensures config { config_of result ≡ config.now }
-    ensures reserved { result.reserved ≡ replicate 5 0 }
+    ensures reserved { result.reserved ≡ replicate 4 0 }
 {
     Settings {
         // begin shown: tools/tables writes these lines
@@ -148,8 +150,9 @@ fn shown(config: &Config) -> Settings
         legacy: config.legacy,
         period: config.period,
         buffered: config.buffered,
+        bsses: config.bsses,
         // end shown
-        reserved: [0; 5],
+        reserved: [0; 4],
     }
 }
 
@@ -157,7 +160,7 @@ fn shown(config: &Config) -> Settings
 #[unsafe(no_mangle)]
 pub extern "C" fn wf_settings_standard(settings: &mut Settings)
     ensures config { config_of settings.new ≡ standard }
-    ensures reserved { settings.new.reserved ≡ replicate 5 0 }
+    ensures reserved { settings.new.reserved ≡ replicate 4 0 }
 {
     *settings = shown(&Config::standard());
 }
@@ -166,7 +169,7 @@ pub extern "C" fn wf_settings_standard(settings: &mut Settings)
 #[unsafe(no_mangle)]
 pub extern "C" fn wf_settings_device(settings: &mut Settings)
     ensures config { config_of settings.new ≡ device }
-    ensures reserved { settings.new.reserved ≡ replicate 5 0 }
+    ensures reserved { settings.new.reserved ≡ replicate 4 0 }
 {
     *settings = shown(&Config::device());
 }

@@ -1,4 +1,4 @@
-//! A small program over a path and a peer; docs/USING.md shows its whole text.
+//! A small program over a path and a peer; docs/USING.md describes it, and shows what it writes.
 #![tactic(auto)]
 
 use anyhow::{Result, bail, ensure};

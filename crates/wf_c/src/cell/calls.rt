@@ -40,7 +40,7 @@ pub struct CallNumbers {
     pub length: u16,
     /// The guard interval of a rate of HE, in nanoseconds.
     pub guard: u16,
-    /// The kind of call: 0 to 33.
+    /// The kind of call: 0 to 34.
     pub kind: u8,
     /// The TID of a frame, of a flush or of an agreement.
     pub tid: u8,
@@ -68,6 +68,8 @@ pub struct CallNumbers {
     pub classes: u8,
     /// The most frames of a service period; 0 limits nothing.
     pub most: u8,
+    /// The BSS that a call about group frames is about, or that a station gets.
+    pub bss: u8,
 }
 
 // All fields 0.
@@ -98,6 +100,7 @@ const BLANK: CallNumbers = CallNumbers {
     speed: 0,
     classes: 0,
     most: 0,
+    bss: 0,
 };
 
 // The number of a format. 0 is the number of HT, which is no value of the argument.
@@ -223,6 +226,7 @@ impl CallNumbers {
             Argument::Octets => Value::Long(self.octets),
             Argument::Classes => Value::Octet(self.classes),
             Argument::Most => Value::Octet(self.most),
+            Argument::Bss | Argument::NewBss => Value::Octet(self.bss),
         }
     }
 
@@ -256,6 +260,7 @@ impl CallNumbers {
             (Argument::Octets, Value::Long(number)) => self.octets = number,
             (Argument::Classes, Value::Octet(number)) => self.classes = number,
             (Argument::Most, Value::Octet(number)) => self.most = number,
+            (Argument::Bss | Argument::NewBss, Value::Octet(number)) => self.bss = number,
             _ => {}
         }
     }
