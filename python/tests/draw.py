@@ -38,14 +38,15 @@ HAS_LEGACY = "legacy" in RANGES
 # OTHERS for the seeds between. A head has no room for all.
 RULES = {"aql_total": 1500, "debt": 20000, "keep_order": 1, "codel_reset": 1, "aql": 1200, "pending": 1}
 OTHERS = {"overhead": 8, "cap_vi": 2000, "cap_vo": 1000, "answers": 1, "credits": 1}
-# Calls about group frames, for the seeds of OTHERS.
+# Calls about group frames, for the seeds of OTHERS, and several BSSs for a path and for a cell.
 GROUPS = {"period": 2, "buffered": 5}
+BSSES = {"bsses": 3}
 BROADCAST = bytes([255] * 6)
 WORDS = {"join": "joined", "set_rate": "set", "sleep": "slept", "wake": "woken"}
 WORDS |= {"set_ampdu": "set", "stop": "stopped", "start": "started", "unsent": "marked", "give_up": "marked"}
 WORDS |= {"join_offload": "joined", "set_weight": "set", "plain": "joined", "begin": "begun", "free": "freed"}
-WORDS |= {"apsd": "set", "end_service": "ended"}
-GROUP_KINDS = (CallKind.GROUP, CallKind.GROUP, CallKind.BEACON, CallKind.GPULL, CallKind.GDONE)
+WORDS |= {"apsd": "set", "end_service": "ended", "set_bss": "set"}
+GROUP_KINDS = (CallKind.GROUP, CallKind.GROUP, CallKind.BEACON, CallKind.GPULL, CallKind.GDONE, CallKind.BSS)
 SERVICE_KINDS = (CallKind.APSD, CallKind.TRIGGER, CallKind.TRIGGER, CallKind.EOSP)
 # The words of calls about service periods, and their methods.
 SERVICES = [(name, name) for name in ("apsd", "apsd", "sleep", "trigger", "trigger", "trigger")] + [("eosp", "end_service")]
@@ -55,7 +56,8 @@ COUNTS = {"leave": "left", "flush": "flushed", "tick": "now", "rx": "charged", "
 
 def settings_of(seed: int, agreements: bool) -> dict[str, int]:
     """Returns the settings for a seed."""
-    rules = {name: value for name, value in ({**OTHERS, **GROUPS} if seed % 2 else RULES).items() if name in RANGES}
+    groups = {**GROUPS, **(BSSES if seed % 8 in (3, 5) else {})}
+    rules = {name: value for name, value in ({**OTHERS, **groups} if seed % 2 else RULES).items() if name in RANGES}
     if agreements and HAS_LEGACY:
         rules["legacy"] = 2
     for name in ("codel_reset", "cap_vi", "cap_vo") if agreements else ("answers",):
@@ -114,6 +116,7 @@ class Draw:
         self.handle = handle
         self.agreements = agreements
         self.has_groups = handle.settings.buffered > 0
+        self.bsses = max(1, handle.settings.bsses)
         self.lines: list[str] = [trace.head(handle.settings)]
         self.answers: list[str | None] = []
 
@@ -212,7 +215,8 @@ class Draw:
         made = call.struct
         made.station, made.tid, made.flow, made.length = station, self.below(9), self.below(20), 1 + self.below(300)
         made.by, made.air, made.class_ = self.below(2000), self.below(2000), class_
-        made.classes, made.most = self.below(17), self.below(6)
+        made.classes, made.most, made.bss = self.below(17), self.below(6), self.bss()
+        of_bss = f" {made.bss}" if made.bss else ""
         lines = {
             CallKind.ENQUEUE: f"enq {station} {made.tid} {made.flow} {made.length}",
             CallKind.TICK: f"tick {made.by}",
@@ -222,7 +226,9 @@ class Draw:
             CallKind.APSD: f"apsd {station} {made.classes} {made.most}",
             CallKind.TRIGGER: f"trigger {station}",
             CallKind.EOSP: f"eosp {station}",
-            CallKind.GROUP: f"group {made.length}",
+            CallKind.GROUP: f"group {made.length}{of_bss}",
+            CallKind.BSS: f"bss {station} {made.bss}",
+            **{one: one.word + of_bss for one in (CallKind.BEACON, CallKind.GPULL, CallKind.GDONE)},
         }
         return call, lines.get(kind, kind.word)
 
@@ -253,13 +259,22 @@ class Draw:
         else:
             self.call(f"{name} {station} {tid}", name, station, tid)
 
+    def bss(self) -> int:
+        """The number of a BSS, seldom one that does not exist."""
+        return self.below(self.bsses if self.below(50) else self.bsses + 1)
+
     def group(self) -> None:
-        """A call about group frames."""
-        length, name = 1 + self.below(2304), self.random.choice(("group", "group", "beacon", "group_pull", "group_done"))
+        """A call about the group frames of a BSS, or one that sets the BSS of a station."""
+        names = ("group", "group", "beacon", "group_pull", "group_done", "bss")
+        length, name, bss = 1 + self.below(2304), self.random.choice(names), self.bss()
+        of_bss = f" {bss}" if bss else ""
         if name == "group":
-            self.call(f"group {length}", "group", *self.group_arguments(length))
+            self.call(f"group {length}{of_bss}", "group", *self.group_arguments(length), bss=bss)
+        elif name == "bss":
+            station = self.station()
+            self.call(f"bss {station} {bss}", "set_bss", station, bss)
         else:
-            self.call(name.replace("group_", "g"), name)
+            self.call(name.replace("group_", "g") + of_bss, name, bss)
 
     def group_arguments(self, length: int) -> tuple[Any, ...]:
         """The arguments of the method `group`."""
@@ -399,6 +414,7 @@ class PathDraw(Draw):
             header, tag = self.handle.header(exchange.number, index), self.handle.frame_tag(exchange.number, index)
             is_last = index == len(exchange.ids) - 1
             assert header[24] == exchange.tid + (16 if exchange.eosp and is_last else 0)
+            assert bool(header[1] & 0x20) == (exchange.more or (exchange.eosp and not is_last))
             try:
                 octets = self.handle.mpdu(exchange.number, index)
             except errors.NoBody:
@@ -507,13 +523,17 @@ class PathDraw(Draw):
                 if share.charged or share.rx:
                     said = f"charged {share.charged} rx {share.rx} deficit {share.deficit}"
                     self.answers.append(f"sta {station} {class_.word} {said}")
-        if self.has_groups:
-            groups = path.group_counts()
-            self.answers.append(f"group {groups.accepted} sent {groups.sent} held {groups.held} air {groups.air}")
-        latest = [answer.split()[1:] for answer in self.answers if answer and answer.startswith("beacon ")]
-        count, follows = map(int, latest[-1] if latest else (0, 0))
-        tim = path.tim(count, max(1, path.settings.period), follows == 1)
-        self.answers.append(f"tim {tim.hex()}")
+        latest = {line: answer for line, answer in zip(self.lines[1:], self.answers) if answer and answer.startswith("beacon ")}
+        for bss in range(self.bsses):
+            of_bss = f" bss {bss}" if self.bsses > 1 else ""
+            if self.has_groups:
+                groups = path.group_counts(bss)
+                said = f"group {groups.accepted} sent {groups.sent} held {groups.held} air {groups.air}"
+                self.answers.append(said + of_bss)
+            beacon = latest.get(f"beacon {bss}" if bss else "beacon", "beacon 0 0")
+            count, follows = map(int, beacon.split()[1:])
+            tim = path.tim(count, max(1, path.settings.period), follows == 1, bss)
+            self.answers.append(f"tim {tim.hex()}{of_bss}")
 
 
 class CellDraw(Draw):

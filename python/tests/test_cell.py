@@ -126,6 +126,26 @@ class Calls(unittest.TestCase):
                     cell.group(length)
             self.assertEqual(list(cell.trace())[1:-1], ["group 1000", "group 1", "beacon", "gpull", "gdone"])
 
+    def test_several_bsses(self) -> None:
+        with Cell(stations=1, bsses=2, buffered=1, calls=40) as cell:
+            cell.join(0)
+            cell.set_bss(0, 1)
+            self.assertEqual([cell.group(1000), cell.group(1000, 1)], [0, 0])
+            cell.sleep(0)
+            self.assertEqual(str(cell.group_pull()), "gsend 0 0 air 1396")
+            with self.assertRaises(errors.Idle):
+                cell.group_pull(1)
+            self.assertEqual(cell.beacon(1), (0, True))
+            self.assertEqual(str(cell.group_pull(1)), "gsend 0 1 air 1396")
+            self.assertEqual([cell.group_done(), cell.group_done(1)], [0, 0])
+            with self.assertRaises(errors.BadBss):
+                cell.beacon(2)
+            with self.assertRaises(errors.Asleep):
+                cell.set_bss(0, 0)
+            lines = ["bss 0 1", "group 1000", "group 1000 1", "sleep 0", "gpull", "gpull 1", "beacon 1", "gpull 1"]
+            lines += ["gdone", "gdone 1", "beacon 2", "bss 0 0"]
+            self.assertEqual(list(cell.trace())[2:-1], lines)
+
     def test_service_periods(self) -> None:
         with Cell(stations=1, calls=40) as cell:
             cell.join(0)
@@ -142,6 +162,9 @@ class Calls(unittest.TestCase):
     def test_numbers_that_do_not_fit_are_errors(self) -> None:
         cell = self.cell
         for call in (lambda: cell.arrive(0, 65536), lambda: cell.done(-1, True), lambda: cell.rx(0, 4, 1)):
+            with self.assertRaises(ValueError):
+                call()
+        for call in (lambda: cell.set_bss(0, 256), lambda: cell.group(1, 256), lambda: cell.beacon(-1)):
             with self.assertRaises(ValueError):
                 call()
         for call in (lambda: cell.plain(0, 65536), lambda: cell.hold(0, 256), lambda: cell.begin(0, 0, 65536)):

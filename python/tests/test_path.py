@@ -5,6 +5,7 @@ import copy
 import ctypes
 import pickle
 import unittest
+from collections.abc import Callable
 from pathlib import Path as File
 
 from wfpath import (
@@ -322,9 +323,18 @@ class Calls(unittest.TestCase):
             lambda: self.path.cease(0, -1),
             lambda: self.path.done_ack(-1, True),
             lambda: self.path.set_aid(0, 65536),
-            lambda: self.path.set_bss(65536, bytes(6)),
-            lambda: self.path.tim(bss=b"12345"),
+            lambda: self.path.set_bss(65536, 0),
+            lambda: self.path.set_bss(0, 256),
+            lambda: self.path.set_bss_address(256, bytes(6)),
+            lambda: self.path.set_bss_address(0, b"12345"),
+            lambda: self.path.tim(bss=-1),
             lambda: self.path.tim(256),
+            lambda: self.path.group(BROADCAST, 1, 0, 256),
+            lambda: self.path.beacon(256),
+            lambda: self.path.group_pull(-1),
+            lambda: self.path.group_header(bytes(6), 256),
+            lambda: self.path.group_done(256),
+            lambda: self.path.group_counts(256),
             lambda: self.path.group(b"12345", 1),
             lambda: self.path.group(BROADCAST, 65536),
             lambda: self.path.group(BROADCAST, 1, -1),
@@ -350,28 +360,70 @@ class Calls(unittest.TestCase):
         with self.assertRaises(errors.BadAddress):
             self.path.set_base(b"\1\0\0\0\0\0")
 
-    def test_a_station_of_another_bss(self) -> None:
-        path, bss = self.path, b"\0\0\x5e\0\x53\3"
-        path.set_bss(1, bss)
-        path.set_aid(1, 9)
-        for station in range(2):
-            path.join(station)
-            path.enqueue(station, 100)
-        heads = [path.header(path.pull(BE).number, 0) for _ in range(2)]
-        self.assertEqual([head[10:16] for head in heads], [path.base, bss])
-        for station in range(2):
-            path.sleep(station)
-            path.enqueue(station, 100)
-        # The bits of the AIDs 1 and 9, from the first octet that is not 0 on.
-        self.assertEqual(path.tim()[5:], b"\2\2")
-        self.assertEqual((path.tim(bss=path.base)[5:], path.tim(bss=bss)[4:]), (b"\2", b"\0\0\2"))
-        self.assertEqual(path.tim(bss=b"\0\0\x5e\0\x53\4"), b"\5\4\0\1\0\0")
-        self.assertEqual(path.tim(2, 3, True, bss=bss), b"\5\5\2\3\1\0\2")
-        for aid in (0, 2008):
-            with self.assertRaises(errors.BadAid):
-                path.set_aid(1, aid)
+    def test_stations_of_two_bsses(self) -> None:
+        with Path(stations=2, bsses=2) as path:
+            bss = b"\0\0\x5e\0\x53\3"
+            path.set_bss_address(1, bss)
+            path.set_aid(1, 9)
+            for station in range(2):
+                path.join(station)
+                path.set_bss(station, station)
+                path.enqueue(station, 100)
+            heads = [path.header(path.pull(BE).number, 0) for _ in range(2)]
+            self.assertEqual([head[10:16] for head in heads], [path.base, bss])
+            for station in range(2):
+                path.sleep(station)
+                path.enqueue(station, 100)
+            # The bits of the AIDs 1 and 9, from the first octet that is not 0 on.
+            self.assertEqual([path.tim()[5:], path.tim(bss=1)[4:]], [b"\2", b"\0\0\2"])
+            self.assertEqual(path.tim(bss=2), b"\5\4\0\1\0\0")
+            self.assertEqual(path.tim(2, 3, True, bss=1), b"\5\5\2\3\1\0\2")
+            for aid in (0, 2008):
+                with self.assertRaises(errors.BadAid):
+                    path.set_aid(1, aid)
+
+    def test_what_is_refused_of_a_bss(self) -> None:
+        path = self.path
+        path.join(0)
         with self.assertRaises(errors.BadAddress):
-            path.set_bss(1, b"\1\0\0\0\0\0")
+            path.set_bss_address(0, b"\1\0\0\0\0\0")
+        calls: list[Callable[[], object]] = [
+            lambda: path.set_bss_address(1, b"\1\0\0\0\0\0"),
+            lambda: path.set_bss(0, 1),
+            lambda: path.group(BROADCAST, 100, bss=1),
+            lambda: path.beacon(1),
+            lambda: path.group_pull(1),
+            lambda: path.group_header(bytes(6), 1),
+            lambda: path.group_done(1),
+            lambda: path.group_counts(1),
+        ]
+        for call in calls:
+            with self.assertRaises(errors.BadBss):
+                call()
+        with self.assertRaises(errors.NoStation):
+            path.set_bss(1, 0)
+        path.sleep(0)
+        with self.assertRaises(errors.Asleep):
+            path.set_bss(0, 0)
+
+    def test_each_bss_has_its_own_group_frames(self) -> None:
+        with Path(stations=2, bsses=2, buffered=2, period=2) as path:
+            for station in range(2):
+                path.join(station)
+                path.set_bss(station, station)
+            path.sleep(1)
+            bss = b"\0\0\x5e\0\x53\3"
+            path.set_bss_address(1, bss)
+            self.assertEqual([path.group(BROADCAST, 100, bss=one) for one in (0, 1, 1)], [0, 0, 1])
+            # No station of BSS 0 sleeps, so its group frame goes at once.
+            self.assertEqual(str(path.group_pull()), "gsend 0 0 air 196")
+            with self.assertRaises(errors.Idle):
+                path.group_pull(1)
+            self.assertEqual([str(path.beacon(1)) for _ in range(2)], ["beacon 1 0", "beacon 0 1"])
+            self.assertEqual(str(path.group_pull(1)), "gsend 0 2 air 196 more")
+            self.assertEqual([path.group_header(bss, one)[10:16] for one in range(2)], [path.base, bss])
+            self.assertEqual(path.group_done(1), Group(0, 100, 0, BROADCAST))
+            self.assertEqual([path.group_counts(one)[:4] for one in range(2)], [(1, 0, 0, 1), (2, 1, 1, 0)])
 
     def test_group_frames_wait_for_a_dtim_beacon(self) -> None:
         with Path(stations=1, buffered=2, period=2) as path:

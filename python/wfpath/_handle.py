@@ -166,6 +166,12 @@ class Handle:
         return Reaped(number, stamp, tag, flow, station, length, source, tid, FATES[fate], attempts, body)
 
 
+def check_bss(bss: int) -> None:
+    """Checks that the number of a BSS fits the C type."""
+    if bss >> 8:
+        raise out_of_range(bss=(bss, 8))
+
+
 def address_octets(address: bytes) -> bytes:
     """Returns an address, which has to have six octets."""
     if len(address) != 6:

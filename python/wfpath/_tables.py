@@ -132,6 +132,7 @@ class CallKind(enum.IntEnum):
     APSD = 31
     TRIGGER = 32
     EOSP = 33
+    BSS = 34
 
     @property
     def word(self) -> str:
@@ -244,6 +245,9 @@ class Settings:
     buffered: int = 0
     """Group frames that may be queued; with 0 none is accepted [0..65535]."""
 
+    bsses: int = 0
+    """BSSs, which are numbered 0 to `bsses` - 1; 0 means 1 [0..16]."""
+
     @classmethod
     def device(cls, **others: int) -> Settings:
         """Returns the settings for devices, with others in their place."""
@@ -292,6 +296,7 @@ RANGES: dict[str, tuple[int, int]] = {
     "legacy": (0, 2),
     "period": (0, 255),
     "buffered": (0, 65535),
+    "bsses": (0, 16),
 }
 
 
@@ -336,9 +341,10 @@ class SettingsStruct(ctypes.Structure):
     legacy: int
     period: int
     buffered: int
+    bsses: int
     reserved: ctypes.Array[ctypes.c_uint32]
 
-    LAYOUT = "@IIIIIIIIIIIIIIIIIIIIIIIIIII5I"
+    LAYOUT = "@IIIIIIIIIIIIIIIIIIIIIIIIIIII4I"
     _fields_ = [
         ("stations", ctypes.c_uint32),
         ("flows", ctypes.c_uint32),
@@ -367,7 +373,8 @@ class SettingsStruct(ctypes.Structure):
         ("legacy", ctypes.c_uint32),
         ("period", ctypes.c_uint32),
         ("buffered", ctypes.c_uint32),
-        ("reserved", ctypes.c_uint32 * 5),
+        ("bsses", ctypes.c_uint32),
+        ("reserved", ctypes.c_uint32 * 4),
     ]
 
 
@@ -666,8 +673,9 @@ class CallStruct(ctypes.Structure):
     speed: int
     classes: int
     most: int
+    bss: int
 
-    LAYOUT = "@QIIIIIHHHHHHBBBBBBBBBBBBBB"
+    LAYOUT = "@QIIIIIHHHHHHBBBBBBBBBBBBBBB"
     _fields_ = [
         ("exchange", ctypes.c_uint64),
         ("flow", ctypes.c_uint32),
@@ -695,6 +703,7 @@ class CallStruct(ctypes.Structure):
         ("speed", ctypes.c_uint8),
         ("classes", ctypes.c_uint8),
         ("most", ctypes.c_uint8),
+        ("bss", ctypes.c_uint8),
     ]
 
 
@@ -754,7 +763,7 @@ FUNCTIONS: dict[str, tuple[Any, tuple[Any, ...]]] = {
     "wf_path_free": (None, (ctypes.POINTER(PathStruct),)),
     "wf_path_set_base": (ctypes.c_int32, (ctypes.POINTER(PathStruct), ctypes.c_char_p,)),
     "wf_path_set_address": (ctypes.c_int32, (ctypes.POINTER(PathStruct), ctypes.c_uint16, ctypes.c_char_p,)),
-    "wf_path_set_bss": (ctypes.c_int32, (ctypes.POINTER(PathStruct), ctypes.c_uint16, ctypes.c_char_p,)),
+    "wf_path_set_bss": (ctypes.c_int32, (ctypes.POINTER(PathStruct), ctypes.c_uint8, ctypes.c_char_p,)),
     "wf_path_set_aid": (ctypes.c_int32, (ctypes.POINTER(PathStruct), ctypes.c_uint16, ctypes.c_uint16,)),
     "wf_path_base": (None, (ctypes.POINTER(PathStruct), ctypes.c_void_p,)),
     "wf_path_address": (ctypes.c_int32, (ctypes.POINTER(PathStruct), ctypes.c_uint16, ctypes.c_void_p,)),
@@ -982,6 +991,15 @@ FUNCTIONS: dict[str, tuple[Any, tuple[Any, ...]]] = {
             ctypes.POINTER(ReplyStruct),
         ),
     ),
+    "wf_path_set_station_bss": (
+        ctypes.c_int32,
+        (
+            ctypes.POINTER(PathStruct),
+            ctypes.c_uint16,
+            ctypes.c_uint8,
+            ctypes.POINTER(ReplyStruct),
+        ),
+    ),
     "wf_path_enqueue": (
         ctypes.c_int32,
         (
@@ -1046,31 +1064,56 @@ FUNCTIONS: dict[str, tuple[Any, tuple[Any, ...]]] = {
         ctypes.c_int32,
         (
             ctypes.POINTER(PathStruct),
+            ctypes.c_uint8,
             ctypes.c_char_p,
             ctypes.c_uint16,
             ctypes.c_uint64,
             ctypes.POINTER(ReplyStruct),
         ),
     ),
-    "wf_path_beacon": (ctypes.c_int32, (ctypes.POINTER(PathStruct), ctypes.POINTER(ReplyStruct),)),
+    "wf_path_beacon": (
+        ctypes.c_int32,
+        (
+            ctypes.POINTER(PathStruct),
+            ctypes.c_uint8,
+            ctypes.POINTER(ReplyStruct),
+        ),
+    ),
     "wf_path_group_pull": (
         ctypes.c_int32,
         (
             ctypes.POINTER(PathStruct),
+            ctypes.c_uint8,
             ctypes.POINTER(GroupStruct),
             ctypes.POINTER(ReplyStruct),
         ),
     ),
-    "wf_path_group_header": (ctypes.c_int32, (ctypes.POINTER(PathStruct), ctypes.c_char_p, ctypes.c_void_p,)),
+    "wf_path_group_header": (
+        ctypes.c_int32,
+        (
+            ctypes.POINTER(PathStruct),
+            ctypes.c_uint8,
+            ctypes.c_char_p,
+            ctypes.c_void_p,
+        ),
+    ),
     "wf_path_group_done": (
         ctypes.c_int32,
         (
             ctypes.POINTER(PathStruct),
+            ctypes.c_uint8,
             ctypes.POINTER(GroupStruct),
             ctypes.POINTER(ReplyStruct),
         ),
     ),
-    "wf_path_group_counts": (None, (ctypes.POINTER(PathStruct), ctypes.POINTER(GroupCountsStruct),)),
+    "wf_path_group_counts": (
+        ctypes.c_int32,
+        (
+            ctypes.POINTER(PathStruct),
+            ctypes.c_uint8,
+            ctypes.POINTER(GroupCountsStruct),
+        ),
+    ),
     "wf_path_apsd": (
         ctypes.c_int32,
         (
@@ -1306,16 +1349,6 @@ FUNCTIONS: dict[str, tuple[Any, tuple[Any, ...]]] = {
         (
             ctypes.POINTER(PathStruct),
             ctypes.c_uint8,
-            ctypes.c_uint8,
-            ctypes.c_uint8,
-            ctypes.c_void_p,
-        ),
-    ),
-    "wf_path_tim_of": (
-        ctypes.c_size_t,
-        (
-            ctypes.POINTER(PathStruct),
-            ctypes.c_char_p,
             ctypes.c_uint8,
             ctypes.c_uint8,
             ctypes.c_uint8,

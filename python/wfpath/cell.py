@@ -6,7 +6,7 @@ from collections.abc import Iterator, Sequence
 
 from . import _tables as tables
 from . import trace
-from ._handle import BODY_ROOM, NO_ROOM, NO_SOURCE, QUICK, WAITS, Body, C, Handle, view
+from ._handle import BODY_ROOM, NO_ROOM, NO_SOURCE, QUICK, WAITS, Body, C, Handle, check_bss, view
 from ._library import out_of_range
 from ._tables import AccessClass, CallKind, CallStruct, Form, Kind, Settings
 from .answers import CLASSES, Accepted, Beacon, Block, Burst, Ceased, Done, Exchange, GroupSend, Reaped
@@ -169,6 +169,14 @@ class Cell(Handle):
     def end_service(self, station: int) -> None:
         """Ends the service period of a station to which the device sent a QoS Null frame with the EOSP bit."""
         self._of_station(CallKind.EOSP, station)
+
+    def set_bss(self, station: int, bss: int) -> None:
+        """Sets the BSS of a live station that is awake, 0 to `bsses` - 1. A station that joins is of BSS 0."""
+        if station >> 16 or bss >> 8:
+            raise out_of_range(station=(station, 16), bss=(bss, 8))
+        call = self._calls[CallKind.BSS]
+        call.struct.station, call.struct.bss = station, bss
+        self._must(self._code(call))
 
     def set_ampdu(self, station: int, octets: int) -> None:
         """Sets the most octets of aggregates of VHT and HE to a station, 4,096 to 6,500,631."""
@@ -335,33 +343,32 @@ class Cell(Handle):
             self._must(code)
             found.append(self._reaped(body))
 
-    # ---- group frames
+    # ---- group frames. Each function is about one BSS, and raises BadBss if it does not exist.
 
-    def group(self, length: int) -> int:
-        """Puts a group frame with this length in octets at the end of the queue, and returns its id. Raises Buffered if
-        `buffered` group frames are queued."""
+    def group(self, length: int, bss: int = 0) -> int:
+        """Puts a group frame with this length in octets at the end of the queue of a BSS, and returns its id. Raises
+        Buffered if `buffered` group frames of the BSS are queued."""
         if length >> 16:
             raise out_of_range(length=(length, 16))
-        call = self._calls[CallKind.GROUP]
-        call.struct.length = length
-        self._must(self._code(call))
+        self._calls[CallKind.GROUP].struct.length = length
+        self._of_bss(CallKind.GROUP, bss)
         return self._reply.id
 
-    def beacon(self) -> Beacon:
-        """Reports that a beacon goes out. Returns its DTIM count, and whether it announces group frames."""
-        self._must(self._code(self._calls[CallKind.BEACON]))
+    def beacon(self, bss: int = 0) -> Beacon:
+        """Reports that a beacon of a BSS goes out. Returns its DTIM count, and whether it announces group frames."""
+        self._of_bss(CallKind.BEACON, bss)
         return self._beacon()
 
-    def group_pull(self) -> GroupSend:
-        """Takes the first group frame out of the queue, and puts it on the air. Raises Idle if none may go now, or
-        Flying if one is on the air."""
-        self._must(self._code(self._calls[CallKind.GPULL]))
+    def group_pull(self, bss: int = 0) -> GroupSend:
+        """Takes the first group frame of a BSS out of its queue, and puts it on the air. Raises Idle if none may go now,
+        or Flying if one is on the air."""
+        self._of_bss(CallKind.GPULL, bss)
         return self._group_send()
 
-    def group_done(self) -> int:
-        """Reports that the transmission of the group frame on the air has ended, and returns its id. Raises Nothing
-        if none is on the air."""
-        self._must(self._code(self._calls[CallKind.GDONE]))
+    def group_done(self, bss: int = 0) -> int:
+        """Reports that the transmission of the group frame of a BSS on the air has ended, and returns its id. Raises
+        Nothing if none is on the air."""
+        self._of_bss(CallKind.GDONE, bss)
         return self._reply.id
 
     # ---- the history
@@ -412,6 +419,13 @@ class Cell(Handle):
             raise out_of_range(station=(station, 16))
         call = self._calls[kind]
         call.struct.station = station
+        self._must(self._code(call))
+
+    def _of_bss(self, kind: CallKind, bss: int) -> None:
+        """Makes a call about the group frames of a BSS."""
+        check_bss(bss)
+        call = self._calls[kind]
+        call.struct.bss = bss
         self._must(self._code(call))
 
     def _of_tid(self, kind: CallKind, station: int, tid: int) -> None:

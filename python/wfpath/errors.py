@@ -205,11 +205,11 @@ class Nothing(Refused):
 
 
 class Asleep(Refused):
-    """`sleep`: the station is asleep already; `apsd`: the station is asleep."""
+    """`sleep`: the station is asleep already; `apsd` and `bss`: the station is asleep."""
 
     code = 22
     word = "asleep"
-    about = "`sleep`: the station is asleep already; `apsd`: the station is asleep"
+    about = "`sleep`: the station is asleep already; `apsd` and `bss`: the station is asleep"
 
 
 class Awake(Refused):
@@ -380,6 +380,14 @@ class BadClasses(Refused):
     code = 42
     word = "bad-classes"
     about = "the delivery-enabled classes are not 0 to 15"
+
+
+class BadBss(Refused):
+    """The BSS number is not below `bsses`, or not 0 if `bsses` is 0."""
+
+    code = 43
+    word = "bad-bss"
+    about = "the BSS number is not below `bsses`, or not 0 if `bsses` is 0"
 
 
 class NoMemory(WfError):
@@ -582,6 +590,7 @@ ERRORS: dict[int, type[WfError]] = {
     40: Buffered,
     41: Flying,
     42: BadClasses,
+    43: BadBss,
     60: NoMemory,
     61: BadLength,
     62: SmallBuffer,

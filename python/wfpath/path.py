@@ -6,7 +6,7 @@ import struct
 from collections.abc import Iterable, Sequence
 
 from . import _tables as tables
-from ._handle import BODY_ROOM, NO_ROOM, NO_SOURCE, QUICK, WAITS, Body, C, Handle, address_octets
+from ._handle import BODY_ROOM, NO_ROOM, NO_SOURCE, QUICK, WAITS, Body, C, Handle, address_octets, check_bss
 from ._library import out_of_range
 from ._tables import AccessClass, Form, Settings
 from .answers import CLASSES, Accepted, Beacon, Burst, Codel, Done, Exchange, Group, GroupCounts, GroupSend, Reaped
@@ -150,6 +150,12 @@ class Path(Handle):
     def end_service(self, station: int) -> None:
         """Ends the service period of a station to which the device sent a QoS Null frame with the EOSP bit."""
         self._of_station(C.wf_path_end_service, station)
+
+    def set_bss(self, station: int, bss: int) -> None:
+        """Sets the BSS of a live station that is awake, 0 to `bsses` - 1. A station that joins is of BSS 0."""
+        if station >> 16 or bss >> 8:
+            raise out_of_range(station=(station, 16), bss=(bss, 8))
+        self._must(C.wf_path_set_station_bss(self._at, station, bss, self._reply_at))
 
     def set_ampdu(self, station: int, octets: int) -> None:
         """Sets the most octets of aggregates of VHT and HE to a station, 4,096 to 6,500,631."""
@@ -341,45 +347,50 @@ class Path(Handle):
             self._must(code)
             found.append(self._reaped(body))
 
-    # ---- group frames
+    # ---- group frames. Each function is about one BSS, and raises BadBss if it does not exist.
 
-    def group(self, to: bytes, length: int, tag: int = 0) -> int:
-        """Puts a group frame to the group address `to` at the end of the queue, and returns its id. The owner keeps
-        its `length` octets, and sends them after `group_header`. Raises Buffered if `buffered` group frames are
-        queued."""
-        if length >> 16 or tag >> 64:
-            raise out_of_range(length=(length, 16), tag=(tag, 64))
-        self._must(C.wf_path_group(self._at, address_octets(to), length, tag, self._reply_at))
+    def group(self, to: bytes, length: int, tag: int = 0, bss: int = 0) -> int:
+        """Puts a group frame to the group address `to` at the end of the queue of a BSS, and returns its id. The owner
+        keeps its `length` octets, and sends them after `group_header`. Raises Buffered if `buffered` group frames of
+        the BSS are queued."""
+        if length >> 16 or tag >> 64 or bss >> 8:
+            raise out_of_range(length=(length, 16), tag=(tag, 64), bss=(bss, 8))
+        self._must(C.wf_path_group(self._at, bss, address_octets(to), length, tag, self._reply_at))
         return self._reply.id
 
-    def beacon(self) -> Beacon:
-        """Reports that a beacon goes out. Returns its DTIM count, and whether it announces group frames."""
-        self._must(C.wf_path_beacon(self._at, self._reply_at))
+    def beacon(self, bss: int = 0) -> Beacon:
+        """Reports that a beacon of a BSS goes out. Returns its DTIM count, and whether it announces group frames."""
+        check_bss(bss)
+        self._must(C.wf_path_beacon(self._at, bss, self._reply_at))
         return self._beacon()
 
-    def group_pull(self) -> GroupSend:
-        """Takes the first group frame out of the queue, and returns it; the driver then sends it. Raises Idle if none
-        may go now, or Flying if one is on the air."""
+    def group_pull(self, bss: int = 0) -> GroupSend:
+        """Takes the first group frame of a BSS out of its queue, and returns it; the driver then sends it. Raises Idle
+        if none may go now, or Flying if one is on the air."""
+        check_bss(bss)
         group = tables.GroupStruct()
-        self._must(C.wf_path_group_pull(self._at, ctypes.byref(group), self._reply_at))
+        self._must(C.wf_path_group_pull(self._at, bss, ctypes.byref(group), self._reply_at))
         return self._group_send()._replace(frame=group_of(group))
 
-    def group_header(self, source: bytes) -> bytes:
-        """Returns the header of the group frame on the air, 24 octets, with this source address."""
-        self._must(C.wf_path_group_header(self._at, address_octets(source), self._octets))
+    def group_header(self, source: bytes, bss: int = 0) -> bytes:
+        """Returns the header of the group frame of a BSS on the air, 24 octets, with this source address."""
+        check_bss(bss)
+        self._must(C.wf_path_group_header(self._at, bss, address_octets(source), self._octets))
         return bytes(self._octets_view[: tables.GROUP_HEADER])
 
-    def group_done(self) -> Group:
-        """Reports that the transmission of the group frame on the air has ended, and returns the frame. Raises
+    def group_done(self, bss: int = 0) -> Group:
+        """Reports that the transmission of the group frame of a BSS on the air has ended, and returns the frame. Raises
         Nothing if none is on the air."""
+        check_bss(bss)
         group = tables.GroupStruct()
-        self._must(C.wf_path_group_done(self._at, ctypes.byref(group), self._reply_at))
+        self._must(C.wf_path_group_done(self._at, bss, ctypes.byref(group), self._reply_at))
         return group_of(group)
 
-    def group_counts(self) -> GroupCounts:
-        """Returns how many group frames were accepted, sent, and are queued or on the air."""
+    def group_counts(self, bss: int = 0) -> GroupCounts:
+        """Returns how many group frames of a BSS were accepted, sent, and are queued or on the air."""
+        check_bss(bss)
         counts = tables.GroupCountsStruct()
-        C.wf_path_group_counts(self._at, ctypes.byref(counts))
+        self._must(C.wf_path_group_counts(self._at, bss, ctypes.byref(counts)))
         return GroupCounts(counts.accepted, counts.sent, counts.queued, counts.flying, counts.air)
 
     # ---- an open exchange
@@ -428,7 +439,8 @@ class Path(Handle):
     # ---- addresses
 
     def set_base(self, address: bytes) -> None:
-        """Sets the access point's address: six octets, in the order of the air."""
+        """Sets the access point's address in each BSS that has none of its own: six octets, in the order of the
+        air."""
         self._must(C.wf_path_set_base(self._at, address_octets(address)))
 
     def set_address(self, station: int, address: bytes) -> None:
@@ -437,12 +449,10 @@ class Path(Handle):
             raise out_of_range(station=(station, 16))
         self._must(C.wf_path_set_address(self._at, station, address_octets(address)))
 
-    def set_bss(self, station: int, address: bytes) -> None:
-        """Sets the access point's address for a station, live or not, which belongs to another BSS than that of
-        `set_base`."""
-        if station >> 16:
-            raise out_of_range(station=(station, 16))
-        self._must(C.wf_path_set_bss(self._at, station, address_octets(address)))
+    def set_bss_address(self, bss: int, address: bytes) -> None:
+        """Sets the access point's address in one BSS, which `set_base` then does not change."""
+        check_bss(bss)
+        self._must(C.wf_path_set_bss(self._at, bss, address_octets(address)))
 
     def set_aid(self, station: int, aid: int) -> None:
         """Sets the association identifier of a station, live or not, 1 to 2007. At first it is the station number
@@ -551,16 +561,14 @@ class Path(Handle):
         begin."""
         return self._of_tid(C.wf_path_drained, station, tid) != 0
 
-    def tim(self, count: int = 0, period: int = 1, group: bool = False, bss: bytes | None = None) -> bytes:
-        """Returns the TIM element of the stations that sleep and have traffic: of all, or of those whose access
-        point has the address `bss`. `count` is the DTIM count, `period` the DTIM period in beacons, and `group` the
-        bit for group frames: pass `dtim_count` and `follows` of the latest beacon."""
-        if count >> 8 or period >> 8:
-            raise out_of_range(count=(count, 8), period=(period, 8))
-        fields = (count, period, 1 if group else 0, self._octets)
-        if bss is None:
-            return bytes(self._octets_view[: C.wf_path_tim(self._at, *fields)])
-        return bytes(self._octets_view[: C.wf_path_tim_of(self._at, address_octets(bss), *fields)])
+    def tim(self, count: int = 0, period: int = 1, group: bool = False, bss: int = 0) -> bytes:
+        """Returns the TIM element of a BSS, which shows its stations that sleep and have traffic. `count` is the DTIM
+        count, `period` the DTIM period in beacons, and `group` the bit for group frames: pass `dtim_count` and
+        `follows` of the latest beacon of the BSS."""
+        if count >> 8 or period >> 8 or bss >> 8:
+            raise out_of_range(count=(count, 8), period=(period, 8), bss=(bss, 8))
+        size = C.wf_path_tim(self._at, bss, count, period, 1 if group else 0, self._octets)
+        return bytes(self._octets_view[:size])
 
     # ---- parts
 

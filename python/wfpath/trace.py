@@ -35,13 +35,14 @@ FIELDS: dict[CallKind, tuple[str, ...]] = {
     CallKind.BEGIN: ("station", "tid", "window"),
     CallKind.FREE: ("station", "tid"),
     CallKind.CEASE: ("station", "tid"),
-    CallKind.GROUP: ("length",),
-    CallKind.BEACON: (),
-    CallKind.GPULL: (),
-    CallKind.GDONE: (),
+    CallKind.GROUP: ("length", "bss"),
+    CallKind.BEACON: ("bss",),
+    CallKind.GPULL: ("bss",),
+    CallKind.GDONE: ("bss",),
     CallKind.APSD: ("station", "classes", "most"),
     CallKind.TRIGGER: ("station",),
     CallKind.EOSP: ("station",),
+    CallKind.BSS: ("station", "bss"),
 }
 WORDS = {CallKind.ENQUEUE: "enq"}
 
@@ -75,6 +76,9 @@ def arguments(kind: CallKind, fields: dict[str, int]) -> tuple[str, ...]:
     if kind == CallKind.DONE:
         heard = "heard" if fields["heard"] else "lost"
         return (str(fields["exchange"]), heard, *(("air", str(fields["air"])) if fields["air"] else ()))
+    if kind != CallKind.BSS and not fields.get("bss"):
+        # The line of a call about the group frames of BSS 0 leaves it out.
+        fields = {name: value for name, value in fields.items() if name != "bss"}
     return tuple(
         AccessClass(value).word if name == "class_" else str(value) for name, value in fields.items()
     )
