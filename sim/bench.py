@@ -166,6 +166,8 @@ class Bench:
     def join(self, station: Station) -> None:
         self.path.join(station)
         self.path.set_rate(station, station.rate)
+        if station.bss:
+            self.path.set_bss(station)
         if station.apsd:
             self.path.apsd(station)
         self.here[station.number] = True

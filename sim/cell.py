@@ -164,20 +164,23 @@ class Cell(Held):
         charge = self.call(CallKind.RX, station=station.number, class_=CLASSES[frame_class], air=air)
         self.c_ask(self.at, 0, charge, self.to_reply)
 
-    def group(self, octets: int) -> bool:
-        return not self.ask(CallKind.GROUP, length=octets)
+    def set_bss(self, station: Station) -> None:
+        self.must(CallKind.BSS, station=station.number, bss=station.bss)
 
-    def beacon(self) -> bool:
-        self.must(CallKind.BEACON)
+    def group(self, octets: int, bss: int) -> bool:
+        return not self.ask(CallKind.GROUP, length=octets, bss=bss)
+
+    def beacon(self, bss: int) -> bool:
+        self.must(CallKind.BEACON, bss=bss)
         return bool(self.reply.more)
 
-    def group_pull(self) -> GroupSend | None:
-        if self.ask(CallKind.GPULL):
+    def group_pull(self, bss: int) -> GroupSend | None:
+        if self.ask(CallKind.GPULL, bss=bss):
             return None
         return GroupSend(self.reply.id, self.reply.air, bool(self.reply.more))
 
-    def group_done(self) -> None:
-        self.must(CallKind.GDONE)
+    def group_done(self, bss: int) -> None:
+        self.must(CallKind.GDONE, bss=bss)
 
     # Frames
 

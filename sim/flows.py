@@ -24,14 +24,14 @@ MULTICAST = ("mbit", "every_ms", "poisson_per_s", "voip")  # kinds of flows to a
 PAGE_EXPECTED = "small, large, or [octets, requests]"
 
 
-def read_flows(top: Table, seconds: float, stations: list[Station]) -> tuple[list[Flow], list[Flow]]:
-    """The flows of single stations, and the flows to all stations. A table with the name of a group makes a flow for each of its
+def read_flows(top: Table, seconds: float, stations: list[Station], bsses: int) -> tuple[list[Flow], list[Flow]]:
+    """The flows of single stations, and the flows to all stations of a BSS. A table with the name of a group makes a flow for each of its
     stations."""
     flows: list[Flow] = []
     multicast: list[Flow] = []
     for table in top.tables("flow", needed=True):
         if table.has("to"):
-            multicast.append(read_multicast(table, len(multicast) + 1, seconds))
+            multicast.append(read_multicast(table, len(multicast) + 1, seconds, bsses))
             continue
         group = table.text("station")
         members = [station for station in stations if group in (station.group, station.name)]
@@ -47,13 +47,13 @@ def read_flows(top: Table, seconds: float, stations: list[Station]) -> tuple[lis
     return flows, multicast
 
 
-def read_multicast(table: Table, number: int, seconds: float) -> Flow:
-    """The flow of a table to all stations."""
+def read_multicast(table: Table, number: int, seconds: float, bsses: int) -> Flow:
+    """The flow of a table to all stations of a BSS."""
     table.one_of("to", ("all",), "all")
     for key in ("station", "tid", "direction", "echo"):
         if table.has(key):
             raise table.wrong(key, f"no {key}, since the flow is to all stations")
-    flow = read_flow(table, everyone(Legacy("ofdm", 6)), seconds)
+    flow = read_flow(table, everyone(Legacy("ofdm", 6), table.whole("bss", 0, bsses - 1, 0)), seconds)
     if flow.kind not in MULTICAST:
         raise table.fault(f"{flow.kind} is no kind of a flow to all stations: expected one of {', '.join(MULTICAST)}")
     table.finish()

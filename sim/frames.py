@@ -167,20 +167,23 @@ class Path(ABC):
     def end_service(self, station: Station) -> None:
         """Notes that the device ended a service period by a QoS Null frame."""
 
-    def group(self, octets: int) -> bool:
-        """Takes a group frame, and returns whether it has room for it. A model has no group frames, and no beacons."""
+    def set_bss(self, station: Station) -> None:
+        """Sets the BSS of a station, which is 0 when it joins. A model has no group frames, and no beacons."""
+
+    def group(self, octets: int, bss: int) -> bool:
+        """Takes a group frame of a BSS, and returns whether it has room for it."""
         raise NotImplementedError
 
-    def beacon(self) -> bool:
-        """Notes that a beacon goes out. Returns whether it announces group frames."""
+    def beacon(self, bss: int) -> bool:
+        """Notes that a beacon of a BSS goes out. Returns whether it announces group frames."""
         raise NotImplementedError
 
-    def group_pull(self) -> GroupSend | None:
-        """The next group frame, if one may go now."""
+    def group_pull(self, bss: int) -> GroupSend | None:
+        """The next group frame of a BSS, if one may go now."""
         raise NotImplementedError
 
-    def group_done(self) -> None:
-        """Notes that the group frame on the air has ended."""
+    def group_done(self, bss: int) -> None:
+        """Notes that the group frame of a BSS on the air has ended."""
         raise NotImplementedError
 
     def close(self) -> None:

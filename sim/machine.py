@@ -28,6 +28,11 @@ def measured(exchange: Exchange) -> str:
     return "" if exchange.charge is None else f" air {exchange.charge}"
 
 
+def of_bss(line: str, bss: int) -> str:
+    """The line of a call about the group frames of a BSS."""
+    return f"{line} {bss}" if bss else line
+
+
 def head_of(settings: dict[str, int]) -> str:
     """The first line of a trace with these settings. Those that have their standard values are left out."""
     words = [f"{name}={value}" for name, value in settings.items() if value != known_settings()[name].standard]
@@ -205,18 +210,21 @@ class Machine(Held):
         if self.coming >= MOST_COMING:
             self.ask([])
 
-    def group(self, octets: int) -> bool:
-        return self.ask([f"group {octets}"])[0].startswith("queued ")
+    def set_bss(self, station: Station) -> None:
+        self.must(f"bss {station.number} {station.bss}", "set")
 
-    def beacon(self) -> bool:
-        return self.must("beacon", "beacon").endswith(" 1")
+    def group(self, octets: int, bss: int) -> bool:
+        return self.ask([of_bss(f"group {octets}", bss)])[0].startswith("queued ")
 
-    def group_pull(self) -> GroupSend | None:
-        words = self.ask(["gpull"])[0].split()
+    def beacon(self, bss: int) -> bool:
+        return self.must(of_bss("beacon", bss), "beacon").endswith(" 1")
+
+    def group_pull(self, bss: int) -> GroupSend | None:
+        words = self.ask([of_bss("gpull", bss)])[0].split()
         return GroupSend(int(words[1]), int(words[4]), words[-1] == "more") if words[0] == "gsend" else None
 
-    def group_done(self) -> None:
-        self.must("gdone", "gdone")
+    def group_done(self, bss: int) -> None:
+        self.must(of_bss("gdone", bss), "gdone")
 
     def pull(self, frame_class: str) -> Exchange | None:
         words = self.ask([f"pull {frame_class}"])[0].split()

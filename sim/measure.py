@@ -220,12 +220,13 @@ def octets_released(bench: Bench) -> list[tuple[int, int]]:
 
 
 def multicast_results(bench: Bench) -> list[MulticastResult]:
-    """The results of each multicast flow at each station."""
+    """The results of each multicast flow at each station of its BSS."""
     found, flows = bench.multicast, bench.scenario.multicast
     return [
         MulticastResult(flow, station, sending.offered, sending.refused, one.lost, one.missed, sorted(one.delays))
         for flow, sending, heard in zip(flows, found.sending, found.heard)
         for station, one in zip(bench.scenario.stations, heard)
+        if station.bss == flow.station.bss
     ]
 
 

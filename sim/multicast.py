@@ -1,7 +1,7 @@
-"""Beacons and group frames: when they go on the air, and which stations hear them.
+"""Beacons and group frames of each BSS: when they go on the air, and which stations hear them.
 
-Each station hears each beacon. A sleeping station also hears the group frames that a DTIM beacon announced, until one without More
-Data or until the next beacon. A group frame is sent once.
+Each station hears each beacon of its BSS. A sleeping station also hears the group frames that a DTIM beacon announced, until one
+without More Data or until the next beacon. A group frame is sent once.
 """
 from __future__ import annotations
 
@@ -16,7 +16,7 @@ from .clock import Clock
 from .frames import Path
 from .medium import Medium
 from .rates import Legacy
-from .scenario import Scenario, Station
+from .scenario import Bss, Scenario, Station
 from .traffic import Timed
 
 SLOW = Legacy("ofdm", 6)
@@ -48,6 +48,18 @@ class GroupFrame:
     came: int
 
 
+@dataclass
+class Network:
+    """The beacons and group frames of a BSS, by its number."""
+
+    number: int
+    frames: list[GroupFrame] = field(default_factory=list)  # those that were accepted: a frame's id is its place
+    listening: set[int] = field(default_factory=set)  # stations that hear group frames also while they sleep
+    is_used: bool = False  # whether a multicast flow is to its stations
+    is_beacon_due: bool = False
+    may_send: bool = False  # whether a pull of a group frame might find one
+
+
 class Multicast:
     """The beacons of the access point and the frames of multicast flows."""
 
@@ -58,21 +70,24 @@ class Multicast:
         self.every = scenario.air.beacon or 0  # microseconds between beacons
         self.access = scenario.air.difs if scenario.air.access is None else scenario.air.access  # without a backoff
         self.arrivals = Arrivals([Timed(flow, scenario.seed) for flow in scenario.multicast])
-        self.frames: list[GroupFrame] = []  # those that were accepted: a frame's id is its place
+        self.flows = scenario.multicast
+        self.networks = [Network(number) for number in range(len(scenario.bsses))]
         self.sending = [Sending() for _ in scenario.multicast]
         self.heard = [[Heard() for _ in scenario.stations] for _ in scenario.multicast]
         self.losses = [random.Random(f"{scenario.seed} multicast {one.number} {one.name}") for one in scenario.stations]
         self.asleep: set[int] = set()
-        self.listening: set[int] = set()  # stations that hear group frames also while they sleep
-        self.is_used = bool(scenario.multicast)
-        self.is_beacon_due = False
-        self.may_send = False  # whether a pull of a group frame might find one
         self.used = 0  # microseconds of beacons and group frames after the warm-up, with the access before them
-        if self.every:
-            clock.at(self.every, self.note_beacon)
+        for flow in scenario.multicast:
+            self.networks[flow.station.bss].is_used = True
+        self.plan_beacons(scenario.bsses)
         self.plan_arrivals()
 
     # Arrivals, beacons and sleep
+
+    def plan_beacons(self, bsses: list[Bss]) -> None:
+        """Schedules the first beacon of each BSS."""
+        for network, bss in zip(self.networks, bsses) if self.every else ():
+            self.clock.at(self.every + bss.offset, functools.partial(self.note_beacon, network))
 
     def plan_arrivals(self) -> None:
         """Schedules the arrival of the next frames."""
@@ -90,18 +105,18 @@ class Multicast:
 
     def offer(self, flow: int, came: int, octets: int) -> None:
         """Gives a frame of a flow to the path."""
-        counted = came >= self.warmup
+        counted, network = came >= self.warmup, self.networks[self.flows[flow].station.bss]
         self.sending[flow].offered += counted
-        if self.path.group(octets):
-            self.frames.append(GroupFrame(flow, came))
-            self.may_send = True
+        if self.path.group(octets, network.number):
+            network.frames.append(GroupFrame(flow, came))
+            network.may_send = True
         else:
             self.sending[flow].refused += counted
 
-    def note_beacon(self) -> None:
-        """The time of a beacon has come."""
-        self.is_beacon_due = True
-        self.clock.at(self.clock.now + self.every, self.note_beacon)
+    def note_beacon(self, network: Network) -> None:
+        """The time of a beacon of a BSS has come."""
+        network.is_beacon_due = True
+        self.clock.at(self.clock.now + self.every, functools.partial(self.note_beacon, network))
 
     def sleep(self, station: Station) -> None:
         """Notes that a station sleeps. If the latest beacon announced group frames, the station still hears them."""
@@ -110,37 +125,42 @@ class Multicast:
     def wake(self, station: Station) -> None:
         """Notes that a station is awake, or has left."""
         self.asleep.discard(station.number)
-        self.may_send = self.is_used
+        network = self.networks[station.bss]
+        network.may_send = network.is_used
 
     # The air
 
     def send(self) -> bool:
-        """Begins the beacon that is due, or else a group frame that may go now. Returns whether it began one of them."""
-        if self.is_beacon_due:
-            self.send_beacon()
-            return True
-        return self.may_send and self.send_frame()
+        """Begins a beacon that is due, or else a group frame that may go now. Returns whether it began one of them."""
+        for network in self.networks:
+            if network.is_beacon_due:
+                self.send_beacon(network)
+                return True
+        return any(network.may_send and self.send_frame(network) for network in self.networks)
 
-    def send_beacon(self) -> None:
-        """Begins a beacon."""
-        self.is_beacon_due = False
-        follows = self.path.beacon()
-        self.listening = {one.number for one in self.stations if self.here[one.number]} if follows else set()
-        self.may_send = self.is_used
+    def present(self, network: Network) -> list[Station]:
+        """The stations of a BSS that have joined and not left."""
+        return [one for one in self.stations if one.bss == network.number and self.here[one.number]]
+
+    def send_beacon(self, network: Network) -> None:
+        """Begins a beacon of a BSS."""
+        network.is_beacon_due = False
+        follows = self.path.beacon(network.number)
+        network.listening = {one.number for one in self.present(network)} if follows else set()
+        network.may_send = network.is_used
         self.begin(SLOW.data_time(BEACON_OCTETS), lambda: None)
 
-    def send_frame(self) -> bool:
-        """Begins the next group frame, if one may go, and returns whether it did. The stations that sleep now and do not listen
-        will miss it."""
-        sent = self.path.group_pull()
+    def send_frame(self, network: Network) -> bool:
+        """Begins the next group frame of a BSS, if one may go, and returns whether it did. Its stations that sleep now and do not
+        listen will miss it."""
+        sent = self.path.group_pull(network.number)
         if sent is None:
-            self.may_send = False
+            network.may_send = False
             return False
-        present = [one for one in self.stations if self.here[one.number]]
-        deaf = self.asleep - self.listening
+        deaf = self.asleep - network.listening
         if not sent.more:
-            self.listening -= self.asleep
-        self.begin(sent.air, functools.partial(self.finish, self.frames[sent.number], present, deaf))
+            network.listening -= self.asleep
+        self.begin(sent.air, functools.partial(self.finish, network, network.frames[sent.number], self.present(network), deaf))
         return True
 
     def begin(self, air: int, ended: Callable[[], None]) -> None:
@@ -155,10 +175,10 @@ class Multicast:
             self.used += self.access + air
         ended()
 
-    def finish(self, frame: GroupFrame, present: list[Station], deaf: set[int]) -> None:
-        """A group frame has ended: draws which stations receive it."""
-        self.path.group_done()
-        self.may_send = True
+    def finish(self, network: Network, frame: GroupFrame, present: list[Station], deaf: set[int]) -> None:
+        """A group frame has ended: draws which stations of its BSS receive it."""
+        self.path.group_done(network.number)
+        network.may_send = True
         for station in present:
             heard = self.heard[frame.flow][station.number]
             is_lost = station.number not in deaf and self.losses[station.number].random() < station.loss

@@ -10,7 +10,7 @@ from .fields import Fault, Table
 from .flows import KINDS, read_flows
 from .plots import PICTURES
 from .rates import LONGEST_ALONE, SIFS, WIDE_BLOCK_ACK, Legacy, Rate, parse_rate
-from .scenario import MACHINE, MODEL_SETTINGS, NUMBERED, Air, Scenario, Station
+from .scenario import MACHINE, MODEL_SETTINGS, NUMBERED, Air, Bss, Scenario, Station
 from .settings import settings
 
 __all__ = ["KINDS", "LONGEST", "MOST_SEED", "from_table", "load", "read"]
@@ -48,8 +48,9 @@ def read(path: str | Path) -> Scenario:
 def from_table(top: Table, name: str) -> Scenario:
     """The scenario of a file's outermost table."""
     seconds = top.number("seconds", 0.001, LONGEST)
-    stations = read_stations(top, seconds)
-    flows, multicast = read_flows(top, seconds, stations)
+    bsses = read_bsses(top)
+    stations = read_stations(top, seconds, len(bsses))
+    flows, multicast = read_flows(top, seconds, stations, len(bsses))
     scenario = Scenario(
         name=name,
         title=top.text("title", name),
@@ -57,12 +58,13 @@ def from_table(top: Table, name: str) -> Scenario:
         seconds=seconds,
         warmup=top.number("warmup", 0, seconds, 0),
         seed=top.whole("seed", 0, MOST_SEED, 1),
-        settings=read_settings(top.table("machine"), len(stations)),
+        settings=read_settings(top.table("machine"), len(stations), len(bsses)),
         models=read_models(top.table("models")),
         air=read_air(top.table("air")),
         stations=stations,
         flows=flows,
         multicast=multicast,
+        bsses=bsses,
         compare=top.texts("compare", [MACHINE]),
     )
     allow_rates(top, scenario)
@@ -127,12 +129,15 @@ def read_air(table: Table) -> Air:
     return air
 
 
-def read_settings(table: Table, stations: int) -> dict[str, int]:
+def read_settings(table: Table, stations: int, bsses: int) -> dict[str, int]:
     """The machine's settings; `stations` is the number of stations if the file does not give it."""
-    if table.has("inflight"):
-        raise table.wrong("inflight", "no such key here: write it in [air]")
-    bounds = {name: (one.least, one.greatest) for name, one in settings().items() if name != "inflight"}
+    for name, place in (("inflight", "it in [air]"), ("bsses", "a table [[bss]] for each")):
+        if table.has(name):
+            raise table.wrong(name, f"no such key here: write {place}")
+    bounds = {name: (one.least, one.greatest) for name, one in settings().items()}
     values = {name: table.whole(name, *limits) for name, limits in bounds.items() if table.has(name)}
+    if bsses > 1:
+        values["bsses"] = bsses
     if values.setdefault("stations", max(stations, 1)) < stations:
         raise table.wrong("stations", f"at least {stations}, the stations of this file")
     table.finish()
@@ -145,14 +150,25 @@ def read_models(table: Table) -> dict[str, int]:
     return values
 
 
-def read_stations(top: Table, seconds: float) -> list[Station]:
+def read_bsses(top: Table) -> list[Bss]:
+    """The BSSs; one if the file has no table of them."""
+    bsses = []
+    for number, table in enumerate(top.tables("bss")):
+        bsses.append(Bss(table.text("name", f"bss {number}"), round(1000 * table.number("offset_ms", 0, 60_000, 0))))
+        table.finish()
+    if len(bsses) > settings()["bsses"].greatest:
+        raise top.fault(f"the file has {len(bsses)} BSSs: expected at most {settings()['bsses'].greatest}")
+    return bsses or [Bss("bss 0")]
+
+
+def read_stations(top: Table, seconds: float, bsses: int) -> list[Station]:
     """All stations; the copies of a table with `count` are named `NAME 1`, `NAME 2` and so on."""
     stations: list[Station] = []
     names: set[str] = set()
     for table in top.tables("station", needed=True):
         group = table.text("name", f"station {len(stations)}")
         count = table.whole("count", 1, MOST_STATIONS, 1)
-        first = read_station(table, group, seconds)
+        first = read_station(table, group, seconds, bsses)
         members = [group] if count == 1 else [f"{group} {copy + 1}" for copy in range(count)]
         for name in dict.fromkeys([group, *members]):
             if name in names:
@@ -164,7 +180,7 @@ def read_stations(top: Table, seconds: float) -> list[Station]:
     return stations
 
 
-def read_station(table: Table, group: str, seconds: float) -> Station:
+def read_station(table: Table, group: str, seconds: float, bsses: int) -> Station:
     """The station of a table, or the first of its copies."""
     join = table.number("join", 0, seconds, 0)
     leave = table.number("leave", join, seconds) if table.has("leave") else math.inf
@@ -189,6 +205,7 @@ def read_station(table: Table, group: str, seconds: float) -> Station:
         plain=table.one_of("agreements", AGREEMENTS, AGREEMENTS[0]) == AGREEMENTS[1],
         apsd=read_apsd(table),
         most=table.whole("max", 0, MOST_SERVED, 0),
+        bss=table.whole("bss", 0, bsses - 1, 0),
     )
     if table.has("max") and not station.apsd:
         raise table.wrong("max", "no max without apsd, since the station then has no service periods")

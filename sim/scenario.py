@@ -61,6 +61,7 @@ class Station:
     plain: bool = False  # whether it joins without agreements: that of a TID begins at its first frame
     apsd: tuple[str, ...] = ()  # its delivery-enabled classes
     most: int = 0  # frames of a service period; 0 for no limit
+    bss: int = 0  # the number of its BSS
 
     @property
     def classes(self) -> int:
@@ -88,10 +89,20 @@ class Station:
         return bool(self.charge_bias or self.charge_error)
 
 
-def everyone(rate: Rate) -> Station:
-    """Returns a station that represents all stations, as the receiver of a multicast flow at this rate."""
+def everyone(rate: Rate, bss: int) -> Station:
+    """Returns a station that represents all stations of a BSS, as the receiver of a multicast flow at this rate."""
     name, forever = "all", math.inf
-    return Station(-1, name, name, rate, weight=1, window=1, loss=0, ack_loss=0, join=0, leave=forever, rates=[], sleeps=[], poll=0)
+    return Station(
+        -1, name, name, rate, weight=1, window=1, loss=0, ack_loss=0, join=0, leave=forever, rates=[], sleeps=[], poll=0, bss=bss
+    )
+
+
+@dataclass
+class Bss:
+    """A BSS of the access point, which has beacons and group frames of its own."""
+
+    name: str
+    offset: int = 0  # microseconds by which its beacons come after those of a BSS without an offset
 
 
 @dataclass
@@ -154,7 +165,8 @@ class Scenario:
     air: Air
     stations: list[Station]
     flows: list[Flow]
-    multicast: list[Flow] = field(default_factory=list)  # flows to all stations, whose `station` is `everyone`
+    multicast: list[Flow] = field(default_factory=list)  # flows to all stations of a BSS, whose `station` is `everyone`
+    bsses: list[Bss] = field(default_factory=lambda: [Bss("bss 0")])
     pictures: list[str] = field(default_factory=list)
     shown: list[str] = field(default_factory=list)  # names or labels of flows whose delays are shown; empty for all
     compare: list[str] = field(default_factory=list)

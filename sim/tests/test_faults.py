@@ -32,7 +32,7 @@ FAULTS = [  # a file's text, and what is reported after the file's name
     ("second = 1\n" + GOOD, 'unknown key "second": did you mean seconds?'),
     (
         "xyz = 1\n" + GOOD,
-        'unknown key "xyz": expected one of seconds, station, flow, title, note, warmup, seed, machine, models, air, compare, plot',
+        'unknown key "xyz": expected one of seconds, bss, station, flow, title, note, warmup, seed, machine, models, air, compare, plot',
     ),
     ("air = 1\n" + GOOD, "air = 1: expected a table [air]"),
     ("station = 1\n" + TOP + FLOW, "station = 1: expected tables [[station]]"),
@@ -93,7 +93,7 @@ FAULTS = [  # a file's text, and what is reported after the file's name
     (GOOD + "[[station]]\npoll_ms = 0\n", "[[station]] 2: poll_ms = 0: expected a number from 1 to 60000"),
     (
         GOOD + "[[station]]\nspeed = 1\n",
-        '[[station]] 2: unknown key "speed": expected one of name, count, join, leave, rate, weight, window, loss, ack_loss, rates, sleeps, poll_ms, charge_bias, charge_error, offload, agreements, apsd, max',
+        '[[station]] 2: unknown key "speed": expected one of name, count, join, leave, rate, weight, window, loss, ack_loss, rates, sleeps, poll_ms, charge_bias, charge_error, offload, agreements, apsd, max, bss',
     ),
     (GOOD + "[[station]]\nrates = 1\n", "[[station]] 2: rates = 1: expected tables [[rates]]"),
     (GOOD + "[[station]]\nrates = [{ at = 1 }]\n", "[[station]] 2 [[rates]] 1: rate is missing: expected a text of printable characters"),

@@ -51,6 +51,43 @@ buffered = 40
 """
 
 
+# Two BSSs: the station of the second one sleeps for half of the run.
+TWO = """
+seconds = 1
+[[bss]]
+name = "home"
+[[bss]]
+name = "guests"
+offset_ms = 20
+[[station]]
+name = "a"
+rate = "7 20 long"
+loss = 0
+[[station]]
+name = "b"
+rate = "7 20 long"
+loss = 0
+bss = 1
+sleeps = [{ from = 0.3, to = 0.8 }]
+[[flow]]
+station = "a"
+mbit = 1
+[[flow]]
+name = "at home"
+to = "all"
+every_ms = 10
+size = 300
+offset_ms = 0
+[[flow]]
+name = "for guests"
+to = "all"
+bss = 1
+every_ms = 10
+size = 300
+offset_ms = 0
+"""
+
+
 def with_period(text: str, period: int) -> str:
     """A scenario with a DTIM period."""
     if "[machine]" in text:
@@ -95,7 +132,7 @@ class OverTheMachine(unittest.TestCase):
         chosen = scenario(with_period(RESTLESS, 2))
         path = machine(chosen)
         beacon = path.beacon
-        setattr(path, "beacon", lambda: beacon() and False)
+        setattr(path, "beacon", lambda bss: beacon(bss) and False)
         _, result = run(chosen, path)
         self.assertGreater(sum(one.missed for one in result.multicast), 0)
 
@@ -109,6 +146,23 @@ class OverTheMachine(unittest.TestCase):
         _, result, _ = run_text(SLEEPING + "[machine]\nbuffered = 2\n")
         self.assertGreater(result.multicast[0].refused, 0)
         self.assertEqual(result.multicast[0].missed, 0)
+
+    def test_each_bss_has_its_own_group_frames(self) -> None:
+        _, result, lines = run_text(TWO)
+        self.assertEqual([(one.flow.name, one.station.name) for one in result.multicast], [("at home", "a"), ("for guests", "b")])
+        home, guests = result.multicast
+        self.assertEqual((home.received, home.missed, guests.missed), (100, 0, 0))
+        # Nobody of the first BSS sleeps, so its frames do not wait for a beacon.
+        self.assertLess(home.delays[-1], 30_000)
+        self.assertGreater(guests.delays[-1], BEACON - 20_000)
+        self.assertEqual([lines.count(line) for line in ("bss 1 1", "beacon", "beacon 1")], [1, 9, 9])
+        self.assertLess(lines.index("beacon"), lines.index("beacon 1"))
+
+    def test_the_scenario_of_two_bsses(self) -> None:
+        chosen = shortened("two-bsses", 12, 1)
+        _, result = run(chosen, machine(chosen))
+        self.assertEqual([one.missed for one in result.multicast], [0, 0])
+        self.assertTrue(all(one.delays[-1] > 40_000 for one in result.multicast))
 
     def test_the_scenario_of_the_page(self) -> None:
         chosen = shortened("multicast", 5, 1)
@@ -149,6 +203,10 @@ class Read(unittest.TestCase):
             (STREAM.replace('to = "all"', 'to = "all"\ntid = 6'), "expected no tid"),
             (STREAM.replace("every_ms = 10", "backlog = 10"), "backlog is no kind of a flow to all stations"),
             (STREAM + "[machine]\nbuffered = 0\n", "buffered = 0: expected at least 1"),
+            (TWO.replace("bss = 1\nevery_ms", "bss = 2\nevery_ms"), "bss = 2: expected .* 1"),
+            (TWO.replace("bss = 1\nsleeps", "bss = 2\nsleeps"), "bss = 2: expected .* 1"),
+            (STREAM + "[machine]\nbsses = 2\n", r"bsses = 2: expected no such key here: write a table \[\[bss\]\] for each"),
+            (STREAM + "[[bss]]\n" * 17, "the file has 17 BSSs: expected at most 16"),
             (ONE_STATION.replace('station = "a"', 'to = "all"'), r"expected a table \[\[flow\]\] with a station"),
         ):
             with self.assertRaisesRegex(Fault, expected):

@@ -15,13 +15,14 @@ GOOD = {
     "Top": "zzzzzz = 1\nseconds = 1\n[[station]]\nname = 'a'\n[[flow]]\nstation = 'a'\nmbit = 1\n",
     "`[[station]]`": "seconds = 1\n[[station]]\nname = 'a'\nzzzzzz = 1\n[[flow]]\nstation = 'a'\nmbit = 1\n",
     "`[[flow]]`": "seconds = 1\n[[station]]\nname = 'a'\n[[flow]]\nstation = 'a'\nmbit = 1\nzzzzzz = 1\n",
+    "`[[bss]]`": "seconds = 1\n[[bss]]\nzzzzzz = 1\n[[station]]\nname = 'a'\n[[flow]]\nstation = 'a'\nmbit = 1\n",
     **{
         f"`[{name}]`": f"seconds = 1\n[[station]]\nname = 'a'\n[[flow]]\nstation = 'a'\nmbit = 1\n[{name}]\nzzzzzz = 1\n"
         for name in ("air", "models", "plot")
     },
 }
 ELSEWHERE = {  # keys that the page has in other tables, or in the list below the table
-    "Top": {"station", "machine", "models", "air", "flow", "plot"},
+    "Top": {"station", "machine", "models", "air", "flow", "plot", "bss"},
     "`[[flow]]`": {*KINDS, "burst"},
 }
 
