@@ -115,13 +115,13 @@ static int read_path(const struct wf_path *path) {
   struct wf_tally tally = {0};
   struct wf_share share = {0};
   wf_path_tally(path, &tally);
-  wf_path_group_counts(path, &counts);
+  if (wf_path_group_counts(path, 0, &counts) || wf_path_group_counts(path, 1, &counts) != WF_BAD_BSS) return 0;
   wf_path_base(path, base);
   if (base[0] != 2 || wf_path_address(path, 1, address) || address[5] != 1) return 0;
   return wf_path_now(path) == WAIT + PERIOD && wf_path_exchanges(path) == 3 && wf_path_open_count(path) == 3 && wf_path_live(path, 0) == 1 &&
          wf_path_in_service(path, 0) == 0 &&
-         wf_path_share(path, 0, WF_BE, &share) == WF_OK && wf_path_tim(path, 0, 1, 0, tim) == 6 &&
-         wf_path_tim_of(path, base, 2, 3, 1, tim) == 6 && wf_path_group_header(path, base, header) == WF_NOTHING && counts.accepted == 0 &&
+         wf_path_share(path, 0, WF_BE, &share) == WF_OK && wf_path_tim(path, 0, 0, 1, 0, tim) == 6 &&
+         wf_path_tim(path, 1, 2, 3, 1, tim) == 6 && wf_path_group_header(path, 0, base, header) == WF_NOTHING && counts.accepted == 0 &&
          tally.accepted == 1 + FRAMES && tally.codel == 1 && wf_path_can_pull(path, WF_BE) == 0 && wf_path_listed(path, 0, WF_BE) > 0 &&
          wf_path_listed(path, 1, WF_BE) == 0 && wf_path_has_small_counts(path) == 1 && read_exchange(path) && read_tid(path) &&
          read_queues(path);

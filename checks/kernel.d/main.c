@@ -265,9 +265,10 @@ static void change_modes(void) {
   static const uint8_t bss[6] = {0x06, 0, 0, 0, 0, 1};
   uint32_t flying = 1, drained = 0, waiting = 0;
   uint8_t tim[256] = {0};
-  MUST("set_bss", wf_path_set_bss(&path, 1, bss));
   MUST("set_aid", wf_path_set_aid(&path, 1, 2007));
   MUST("plain", wf_path_plain(&path, 1, 4095, 3, 1, &reply));
+  MUST("set_bss", wf_path_set_bss(&path, 1, bss));
+  MUST("set_station_bss", wf_path_set_station_bss(&path, 1, 1, &reply));
   fill(1);
   exchange_plain(0);
   MUST("hold", wf_path_hold(&path, 1, 0, &reply));
@@ -281,7 +282,7 @@ static void change_modes(void) {
   MUST("done_lost", wf_path_done_lost(&path, reply.exchange, 0, &reply));
   MUST("sleep", wf_path_sleep(&path, 1, &reply));
   paint();
-  if (wf_path_tim_of(&path, bss, 0, 1, 0, tim) != 6 || tim[4] != (250 & 0xfe)) fail("the TIM of a BSS", tim[4]);
+  if (wf_path_tim(&path, 1, 0, 1, 0, tim) != 6 || tim[4] != (250 & 0xfe)) fail("the TIM of a BSS", tim[4]);
   note();
   MUST("waiting", wf_path_waiting(&path, 1, 0, &waiting));
   MUST("cease", wf_path_cease(&path, 1, 0, &reply));
@@ -312,6 +313,7 @@ static void make(void) {
   int32_t code;
   wf_settings_standard(&settings);
   settings.inflight = 1;
+  settings.bsses = 2;
   code = wf_path_make(&path, &settings);
   if (code) fail("make", code);
   print("make took ");

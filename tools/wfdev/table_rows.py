@@ -250,11 +250,11 @@ def allowed(sentence: str) -> str:
 
 
 def read_calls(text: str) -> Iterator[Call]:
-    """The rows of the forms of calls."""
+    """The rows of the forms of calls, in the order of their numbers."""
     said, kinds = variants(text, "CallForm"), variants(text, "Arg")
     listed_in = argument_lists(text)
     kind_of = argument_kinds(text)
-    for row in rows(text, "calls"):
+    for row in sorted(rows(text, "calls"), key=lambda row: row.number):
         line = row.more[0].removeprefix('b"').removesuffix('"')
         allowing = tuple(allowed(kinds.get(kind, kind)) for kind in map(kind_of.__getitem__, listed_in[row.variant]))
         if line.split()[0] != row.word or len(line.split()) - 1 != len(allowing):

@@ -62,7 +62,7 @@ def in_reply(refusal: Refusal) -> str:
 
 def call_notes(text: str) -> dict[str, str]:
     """The comment of each call in the header, which stays: it names fields of a `struct wf_call`."""
-    found = re.findall(r"WF_CALL_(\w+) = \d+,?\s*/\* (.*?) \*/", text, re.S)
+    found = re.findall(r"WF_CALL_(\w+) = \d+,? */\* (.*?) \*/", text, re.S)
     return {name: re.sub(r"\s*\n[ *]*", " ", said) for name, said in found}
 
 

@@ -23,7 +23,6 @@ SCRIPT = Script("modules")
 EARLY = {
     ("wf_def_world", "Unserved"),
     ("wf_law_driver", "Shown"),
-    ("wf_law_runs", "Services"),
     ("wf_send_half", "Times"),
 }
 

@@ -107,12 +107,13 @@ FORMS = {
     "begin": [Form((STATION, OCTET, SHORT_NUMBER))],
     "free": [Form((STATION, OCTET))],
     "cease": [Form((STATION, OCTET))],
-    "group": [Form((LENGTH,))],
-    "beacon": [Form()],
-    "gpull": [Form()],
-    "gdone": [Form()],
+    "group": [Form((LENGTH, OCTET), optional=1)],
+    "beacon": [Form((OCTET,), optional=1)],
+    "gpull": [Form((OCTET,), optional=1)],
+    "gdone": [Form((OCTET,), optional=1)],
     "apsd": [Form((STATION, OCTET, OCTET))],
     "trigger": [Form((STATION,))],
     "eosp": [Form((STATION,))],
+    "bss": [Form((STATION, OCTET))],
 }
 LINES = {**FORMS, "end": [Form()]}

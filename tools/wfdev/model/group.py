@@ -19,7 +19,7 @@ class GroupFrame:
 
 @dataclass
 class Group:
-    """The group frames that are queued and the one on the air, and what the latest beacon said."""
+    """The group frames of a BSS: those that are queued and the one on the air, and what its latest beacon said."""
 
     settings: Settings
     count: int = 0

@@ -1,4 +1,4 @@
-"""The thirty-four calls: MACHINE.md, from the table of calls to Group frames.
+"""The thirty-five calls: MACHINE.md, from the table of calls to Several BSSs.
 
 The method of a call begins with its refusals in the order of the table. A refused call raises `Refused`. It
 changes nothing, except if it is `idle`.
@@ -53,7 +53,7 @@ AMPDUS = range(4096, 6_500_632)
 MOST_CLASSES = 15
 POLL_ORDER = (Class.VO, Class.VI, Class.BE, Class.BK)
 # The methods whose names are not the words of their calls.
-METHODS = {"group": "accept_group"}
+METHODS = {"group": "accept_group", "bss": "set_bss"}
 
 
 @dataclass
@@ -65,7 +65,7 @@ class Machine:
     calls: int = 0
     stations: dict[int, Station] = field(default_factory=dict)
     queues: Queues = field(init=False)
-    group: Group = field(init=False)
+    groups: list[Group] = field(init=False)
     rotations: dict[Class, Rotation] = field(default_factory=lambda: {one: Rotation() for one in Class})
     exchanges: dict[int, Exchange] = field(default_factory=dict)
     pulled: int = 0
@@ -76,7 +76,7 @@ class Machine:
 
     def __post_init__(self) -> None:
         self.queues = Queues(self.settings)
-        self.group = Group(self.settings)
+        self.groups = [Group(self.settings) for _ in range(max(1, self.settings.bsses))]
 
     def step(self, call: Call) -> Answer:
         """Makes a call. Refused or not, it is one entry of the history."""
@@ -97,6 +97,11 @@ class Machine:
         """Returns a live station, or refuses the call."""
         refuse("no-station", station not in self.stations)
         return self.stations[station]
+
+    def in_bss(self, bss: int) -> Group:
+        """Returns the group frames of a BSS, or refuses the call."""
+        refuse("bad-bss", bss >= len(self.groups))
+        return self.groups[bss]
 
     def opened(self, exchange: int) -> Exchange:
         """Returns an open exchange, or refuses the call."""
@@ -660,9 +665,9 @@ class Machine:
         tids = [tid for one in classes for tid in CLASS_TIDS[one]]
         return any(held.sessions[tid].waiting() or self.queues.frames((held.number, tid)) for tid in tids)
 
-    def announced(self) -> list[int]:
-        """Returns the AIDs whose bits the TIM has set."""
-        asleep = [held for held in self.stations.values() if held.asleep]
+    def announced(self, bss: int) -> list[int]:
+        """Returns the AIDs whose bits the TIM of a BSS has set."""
+        asleep = [held for held in self.stations.values() if held.asleep and held.bss == bss]
         return [held.number + 1 for held in asleep if self.holds_more(held, held.polled)]
 
     def reap(self) -> Answer:
@@ -672,34 +677,47 @@ class Machine:
         self.reaped += 1
         return Reaped(frame.id, frame.fate)
 
-    # Group frames.
+    # Group frames, each of a BSS.
 
-    @property
-    def sleeps(self) -> bool:
-        """Whether a station sleeps."""
-        return any(held.asleep for held in self.stations.values())
+    def set_bss(self, station: int, bss: int) -> Answer:
+        """A station is of this BSS from now on."""
+        self.numbered(station)
+        self.in_bss(bss)
+        held = self.live(station)
+        refuse("asleep", held.asleep)
+        held.bss = bss
+        self.list_ready(station)
+        return Word("set")
 
-    def accept_group(self, length: int) -> Answer:
+    def sleeps(self, bss: int) -> bool:
+        """Returns whether a station of a BSS sleeps."""
+        return any(held.asleep and held.bss == bss for held in self.stations.values())
+
+    def accept_group(self, length: int, bss: int = 0) -> Answer:
         """A group frame comes."""
-        queued = len(self.group.queued)
+        group = self.in_bss(bss)
+        queued = len(group.queued)
         refuse("buffered", queued >= self.settings.buffered, queued)
-        return Number("queued", self.group.accept(length))
+        return Number("queued", group.accept(length))
 
-    def beacon(self) -> Answer:
+    def beacon(self, bss: int = 0) -> Answer:
         """A beacon goes out."""
-        self.group.beacon()
-        return Beacon(self.group.count, self.group.announced)
+        group = self.in_bss(bss)
+        group.beacon()
+        return Beacon(group.count, group.announced)
 
-    def gpull(self) -> Answer:
+    def gpull(self, bss: int = 0) -> Answer:
         """The driver asks for the next group frame."""
-        refuse("flying", self.group.flying is not None)
-        refuse("idle", not self.group.may_go(self.sleeps))
-        frame = self.group.pull()
+        group, sleeps = self.in_bss(bss), self.sleeps(bss)
+        refuse("flying", group.flying is not None)
+        refuse("idle", not group.may_go(sleeps))
+        frame = group.pull()
         assert frame.number is not None
-        more = self.sleeps and self.group.may_go(self.sleeps)
-        return GroupSend(frame.id, frame.number, self.group.time(frame), more)
+        more = sleeps and group.may_go(sleeps)
+        return GroupSend(frame.id, frame.number, group.time(frame), more)
 
-    def gdone(self) -> Answer:
+    def gdone(self, bss: int = 0) -> Answer:
         """The transmission of the group frame on the air ended."""
-        refuse("nothing", self.group.flying is None)
-        return Number("gdone", self.group.done())
+        group = self.in_bss(bss)
+        refuse("nothing", group.flying is None)
+        return Number("gdone", group.done())

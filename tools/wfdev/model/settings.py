@@ -40,6 +40,7 @@ class Settings:
     legacy: int = setting(0, 0, 2)
     period: int = setting(0, 0, 255)
     buffered: int = setting(0, 0, 65_535)
+    bsses: int = setting(0, 0, 16)
     # end settings
 
 

@@ -48,6 +48,7 @@ class Station:
     mode: Mode = Mode.AGREED
     offloaded: bool = False
     stopped: bool = False
+    bss: int = 0
     asleep: bool = False
     credit: Class | None = None
     delivery: frozenset[Class] = frozenset()

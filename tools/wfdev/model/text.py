@@ -51,10 +51,11 @@ def summary(machine: Machine) -> Iterator[str]:
     yield f"exchanges {machine.pulled} open {len(machine.exchanges)}"
     for _, held in sorted(machine.stations.items()):
         yield from station_lines(machine, held)
-    group = machine.group
-    if machine.settings.buffered:
-        yield f"group {group.accepted} sent {group.sent} held {group.held} air {group.air}"
-    yield f"tim {tim(machine.announced(), group.count, group.period, group.announced).hex()}"
+    for bss, group in enumerate(machine.groups):
+        which = f" bss {bss}" if len(machine.groups) > 1 else ""
+        if machine.settings.buffered:
+            yield f"group {group.accepted} sent {group.sent} held {group.held} air {group.air}{which}"
+        yield f"tim {tim(machine.announced(bss), group.count, group.period, group.announced).hex()}{which}"
 
 
 @dataclass
@@ -125,7 +126,8 @@ def beacons(octets: bytes) -> list[list[int]]:
         if player.status is not None:
             break
         if written.startswith("beacon ") and player.machine is not None:
-            found.append(sorted(player.machine.announced()))
+            (bss,) = grammar.read(grammar.words_of(line), LINES, has_callers=True).values or (0,)
+            found.append(sorted(player.machine.announced(int(str(bss)))))
     return found
 
 

@@ -68,6 +68,15 @@ class Listing(unittest.TestCase):
         self.assertEqual((group.octets[:4], group.octets[-2:]), (b"\x08\2\0\0", b"\0\1"))
         self.assertEqual(readers.numbers_of(group.octets), [None, 2, None, None, None])
 
+    def test_each_bss_has_its_own_numbers_and_stations(self) -> None:
+        trace = "cell bsses=2 buffered=1\njoin 0 64 0 3\nbss 0 1\nsleep 0\nenq 0 0 0 9\nbeacon\nbeacon\nbeacon 1\ngroup 2\ngroup 3 1\ngpull\nend\n"
+        answers = "joined\nset\nslept\naccepted 0\nbeacon 0 0\nbeacon 0 0\nbeacon 0 0\nqueued 0\nqueued 0\ngsend 0 2 air 64\n"
+        *_, second, other, group = air.on_air(trace, answers)
+        self.assertEqual(second.beacon, model.Beacon(0, 1, 0, []))
+        self.assertEqual(other.beacon, model.Beacon(0, 1, 0, [1]))
+        self.assertEqual(model.name_of(other.octets), "beacon seq 0 count 0 period 1 group 0")
+        self.assertEqual((model.name_of(group.octets), len(group.octets)), ("group seq 2", 26))
+
     def test_the_last_frame_of_a_service_period(self) -> None:
         trace = "cell\njoin 0 64 0 3\napsd 0 8 2\nsleep 0\n" + "enq 0 6 0 9\n" * 3 + "trigger 0\npull vo\nend\n"
         answers = "joined\nset\nslept\n" + "".join(f"accepted {n}\n" for n in range(3)) + "triggered vo\n"

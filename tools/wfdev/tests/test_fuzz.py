@@ -14,7 +14,7 @@ from wfdev.checks.fuzz import __main__ as fuzz
 from wfdev.checks.fuzz import damage, shrink, subjects, traces
 from wfdev.model.text import WELL, replay
 
-SEEDS = range(5)
+SEEDS, MORE_SEEDS = range(5), range(12)
 
 
 def trace(seed: int) -> bytes:
@@ -44,14 +44,13 @@ class Drawn(unittest.TestCase):
 
     def test_frames_come_back_and_meet_other_calls(self) -> None:
         words: set[str] = set()
-        for seed in SEEDS:
+        for seed in MORE_SEEDS:
             maker = traces.Maker(random.Random(seed))
             for _ in range(100):
                 for line in itertools.chain(maker.make_join(), maker.make_start(), maker.make_burst(), maker.make_back()):
                     maker.write(line)
             words |= {line.split()[0] for line in maker.lines}
         self.assertLessEqual({"unsent", "giveup", "arrive", "done", "flush", "leave", "weight", "stop"}, words)
-
 
     def test_agreements_begin_and_end(self) -> None:
         answers: set[str] = set()

@@ -32,7 +32,7 @@ COMMANDS: dict[tuple[str, ...], Callable[[bytes], Ended]] = {
     ("uplink",): scripts.uplink,
 }
 LEAST_ROWS, LEAST_SENDS = 200, 50
-GROUP_CALLS = ("group 9", "beacon", "gpull", "gdone")
+GROUP_CALLS = ("group 9", "beacon", "gpull", "gdone", "group 9 1", "beacon 1", "gpull 1", "gdone 1", "bss 0 1", "bss 1 0")
 MOST_HT_MCS = 15
 
 
@@ -124,28 +124,42 @@ class Grouped(unittest.TestCase):
             self.keep_laws(random.Random(seed), 300)
 
     def keep_laws(self, draw: random.Random, calls: int) -> None:
-        """Makes random calls, and asserts the laws of group frames after each."""
-        settings = Settings(stations=3, period=draw.choice((0, 1, 2, 3)), buffered=draw.choice((1, 2, 8)))
-        machine, answers = Machine(settings), list[Answer]()
-        usual = ["group 100", "beacon", "gpull", "gdone"] * 4
+        """Makes random calls, and asserts the laws of the group frames of each BSS after each."""
+        settings = Settings(
+            stations=3, period=draw.choice((0, 1, 2, 3)), buffered=draw.choice((1, 2, 8)), bsses=draw.choice((0, 1, 2, 3))
+        )
+        machine = Machine(settings)
+        answers = [list[Answer]() for _ in machine.groups]
         for _ in range(calls):
-            other = draw.choice(("sleep", "wake", "sleep", "wake", "leave", "join"))
-            line = draw.choice([*usual, f"{other} {draw.randrange(3)}{' 64 0 3' if other == 'join' else ''}"])
-            slept = machine.sleeps
-            answer = machine.step(read(line.split(), LINES))
-            self.keep_counts(machine, answers := [*answers, answer])
-            if isinstance(answer, Beacon):
-                self.assertEqual(answer.follows, machine.group.may_go(True))
-            if isinstance(answer, GroupSend):
-                self.assertEqual(answer.more, slept and machine.group.may_go(True))
-                if slept:
-                    self.keep_dtim(answers, answer)
+            bss = draw.randrange(len(machine.groups))
+            usual = [f"{word} {bss}" for word in ("group 100", "beacon", "gpull", "gdone")] * 4
+            after = {"join": " 64 0 3", "bss": f" {bss}"}
+            other = draw.choice(("sleep", "wake", "sleep", "wake", "leave", "join", "bss"))
+            call = read(draw.choice([*usual, f"{other} {draw.randrange(3)}{after.get(other, '')}"]).split(), LINES)
+            slept, before = machine.sleeps(bss), [repr(group) for group in machine.groups]
+            answer = machine.step(call)
+            is_about = call.name in ("group", "beacon", "gpull", "gdone")
+            changed = [at for at, group in enumerate(machine.groups) if repr(group) != before[at]]
+            self.assertLessEqual(set(changed), {bss} if is_about else set())
+            if is_about:
+                answers[bss].append(answer)
+                self.keep_counts(machine.groups[bss], settings, answers[bss])
+                self.keep_answer(machine.groups[bss], answers[bss], slept)
 
-    def keep_counts(self, machine: Machine, answers: list[Answer]) -> None:
+    def keep_answer(self, group: Group, answers: list[Answer], slept: bool) -> None:
+        """Asserts what the latest answer about a BSS says."""
+        answer = answers[-1]
+        if isinstance(answer, Beacon):
+            self.assertEqual(answer.follows, group.may_go(True))
+        if isinstance(answer, GroupSend):
+            self.assertEqual(answer.more, slept and group.may_go(True))
+            if slept:
+                self.keep_dtim(answers, answer)
+
+    def keep_counts(self, group: Group, settings: Settings, answers: list[Answer]) -> None:
         """Asserts that the counts add up, and that frames go in order, with rising numbers."""
-        group = machine.group
         self.assertEqual(group.accepted, group.sent + group.held)
-        self.assertLessEqual(len(group.queued), machine.settings.buffered)
+        self.assertLessEqual(len(group.queued), settings.buffered)
         sends = [one for one in answers if isinstance(one, GroupSend)]
         self.assertEqual([one.frame for one in sends], list(range(len(sends))))
         numbered = [one for one in answers if isinstance(one, Beacon | GroupSend)]
@@ -159,11 +173,11 @@ class Grouped(unittest.TestCase):
         self.assertEqual(beacon, Beacon(0, follows=True))
         self.assertLess(answers.index(Number("queued", sent.frame)), beacons[-1])
 
-    def test_calls_about_group_frames_leave_the_answers_of_all_others(self) -> None:
+    def test_calls_about_bsses_leave_the_answers_of_all_others(self) -> None:
         for seed in range(5):
             draw = random.Random(seed)
             head, *lines = traces.made(draw, 150).decode().splitlines()
-            others = [line for line in lines[:-1] if not {"group", "beacon", "gpull", "gdone"} & set(line.split()[:2])]
+            others = [line for line in lines[:-1] if not {"group", "beacon", "gpull", "gdone", "bss"} & set(line.split()[:2])]
             mixed = list(itertools.chain.from_iterable((line, draw.choice(GROUP_CALLS)) for line in others))
             self.assertEqual(self.played(head, others), self.played(head, mixed)[::2])
 

@@ -122,8 +122,8 @@ def replies_of(kind: str) -> set[str]:
     answers = "joined left set now accepted send released done slept woken polled charged reaped".split()
     names += "plain hold begin free cease group beacon gpull gdone".split()
     answers += "marked marked flushed joined set joined held begun freed ceased queued beacon gsend gdone".split()
-    names += "apsd trigger eosp".split()
-    answers += "set triggered ended".split()
+    names += "apsd trigger eosp bss".split()
+    answers += "set triggered ended set".split()
     known = dict(zip(names, answers, strict=True))
     return {"ba", "ack"} if kind == "answer" else {known[kind]}
 
@@ -188,7 +188,8 @@ class Fields(unittest.TestCase):
         texts += ["done 0 heard", "done 0 lost air 90", "sleep 1", "wake 1", "poll 1", "rx 1 vo 9", "reap"]
         texts += ["unsent 0 1", "giveup 0 1", "flush 1 0", "offload 1 3", "offload 1 3 2", "weight 1 2"]
         texts += ["plain 1 0 3", "plain 1 0 3 2", "hold 1 0", "begin 1 0 64", "free 1 0", "cease 1 0"]
-        texts += ["group 300", "beacon", "gpull", "gdone"]
+        texts += ["group 300", "beacon", "gpull", "gdone", "group 300 1", "beacon 1", "gpull 1", "gdone 1", "bss 2 3"]
+        texts += ["apsd 1 12 2", "trigger 1", "eosp 1"]
         for text in texts:
             self.assertLessEqual(set(calls.read(text).fields), self.struct("wf_call"), text)
         self.assertEqual(calls.read("join 1 64 0 3").fields["weight"], 1)
@@ -199,18 +200,28 @@ class Fields(unittest.TestCase):
         self.assertEqual(calls.read("rate 1 he 11 160 800 2").fields["guard"], 800)
         self.assertEqual(calls.read("done 0 lost air 90").fields, {"exchange": 0, "heard": False, "air": 90})
         self.assertEqual(calls.read("@7 reap").caller, 7)
+        self.assertEqual(calls.read("group 300 1").fields, {"length": 300, "bss": 1})
+        self.assertEqual([calls.read(text).number("bss") for text in ("beacon", "beacon 1", "bss 2 3")], [0, 1, 3])
 
     def test_summary_of_every_example(self) -> None:
         for name in EXAMPLES:
             texts = [event.text for event in events(name) if isinstance(event, runs.Summed)]
             found = replies.read_summary(texts)
             if name != "fault":
-                wanted = {"kind", "shares", "calls", "now", "tally", "held", "exchanges", "open", "tim"}
+                wanted = {"kind", "shares", "calls", "now", "tally", "held", "exchanges", "open"}
+                wanted.add("bsses" if name == "bsses" else "tim")
                 self.assertEqual(set(found) - {"group"}, wanted, name)
                 self.assertEqual("group" in found, name == "multicast", name)
                 self.assertEqual(set(found["tally"]), self.struct("wf_tally"))
                 for share in found["shares"]:
                     self.assertEqual(set(share) - {"station", "class_"}, self.struct("wf_share"))
+
+
+    def test_summary_of_several_bsses(self) -> None:
+        found = replies.read_summary(["group 1 sent 1 held 0 air 64 bss 0", "tim 050400010000 bss 0", "tim 050401020000 bss 1"])
+        group = {"accepted": 1, "sent": 1, "held": 0, "air": 64}
+        self.assertEqual(found["bsses"], [{"bss": 0, "group": group, "tim": "050400010000"}, {"bss": 1, "tim": "050401020000"}])
+        self.assertNotIn("tim", found)
 
 
 class Follows(unittest.TestCase):

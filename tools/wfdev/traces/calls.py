@@ -33,13 +33,14 @@ FORMS: dict[str, tuple[str, ...]] = {
     "begin": ("station", "tid", "window"),
     "free": ("station", "tid"),
     "cease": ("station", "tid"),
-    "group": ("length",),
-    "beacon": (),
-    "gpull": (),
-    "gdone": (),
+    "group": ("length", "bss"),
+    "beacon": ("bss",),
+    "gpull": ("bss",),
+    "gdone": ("bss",),
     "apsd": ("station", "classes", "most"),
     "trigger": ("station",),
     "eosp": ("station",),
+    "bss": ("station", "bss"),
 }
 RATES: dict[str, tuple[str, ...]] = {
     "ht": ("station", "mcs", "mhz", "short_guard"),

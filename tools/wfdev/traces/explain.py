@@ -128,6 +128,11 @@ def delivery_of(call: Call) -> str:
     return f"{named}, and service periods of {most}"
 
 
+def of_bss(call: Call) -> str:
+    """Returns the words for the BSS of a call, if it is not BSS 0."""
+    return f" of BSS {call.number('bss')}" if call.number("bss") else ""
+
+
 def asked_pull(call: Call) -> str:
     """Returns what a pull asks."""
     frames = [f"at most {count(call.number('frames'), 'frame')}"] if "frames" in call.fields else []
@@ -195,13 +200,14 @@ ASKED: dict[str, Callable[[Call], str]] = {
     ),
     "free": lambda call: f"The frames of {tid_of(call)}, are to go one at a time from now on.",
     "cease": lambda call: f"The agreement of {tid_of(call)}, ends.",
-    "group": lambda call: f"A frame of {call.number('length')} octets comes for a group of stations.",
-    "beacon": lambda _: "A beacon goes out.",
-    "gpull": lambda _: "The driver asks for the next group frame.",
-    "gdone": lambda _: "The transmission of the group frame on the air has ended.",
+    "group": lambda call: f"A frame of {call.number('length')} octets comes for a group of stations{of_bss(call)}.",
+    "beacon": lambda call: f"A beacon{of_bss(call)} goes out.",
+    "gpull": lambda call: f"The driver asks for the next group frame{of_bss(call)}.",
+    "gdone": lambda call: f"The transmission of the group frame{of_bss(call)} on the air has ended.",
     "apsd": lambda call: f"{station_of(call).capitalize()} is to have {delivery_of(call)}.",
     "trigger": lambda call: f"{station_of(call).capitalize()} sends a trigger frame: it asks for a service period.",
     "eosp": lambda call: f"The device ended the service period of {station_of(call)} by a frame without data.",
+    "bss": lambda call: f"{station_of(call).capitalize()} is to be of BSS {call.number('bss')}.",
 }
 
 
@@ -220,6 +226,7 @@ OF_KIND = {
     ("polled", "trigger"): "Its service period is open already.",
     ("asleep", "sleep"): "The station is asleep already.",
     ("asleep", "apsd"): "The station is asleep.",
+    ("asleep", "bss"): "The station is asleep.",
 }
 NO_GROUP_FRAME = "No group frame is queued, or a station sleeps and no DTIM beacon since the first one came lets it go."
 AFTER_IDLE = "This is the only refusal after which something may have changed."
@@ -541,6 +548,7 @@ ANSWERED: dict[str, Callable[[Call, Reply, Ledger, Exchange | None], str]] = {
         f"A service period is open; the most urgent class that can send in it is {reply.fields['class_']}."
     ),
     "eosp": lambda *_: "It is over: the station gets a frame only after a poll or another trigger.",
+    "bss": lambda *_: "It is: it wakes for the beacons of this BSS.",
 }
 
 

@@ -24,6 +24,7 @@ STANDARD = {
     "charge": 0,
     "pending": 0,
     "buffered": 0,
+    "bsses": 0,
 }
 CLASSES = ("be", "bk", "bk", "be", "vi", "vi", "vo", "vo")
 NUMBERED = ("bk", "be", "vi", "vo")

@@ -117,6 +117,17 @@ def read_share(words: list[str]) -> Fields:
     return {"station": int(words[0]), "class_": words[1], **numbers}
 
 
+def fields_of_bss(found: Fields, words: list[str]) -> Fields:
+    """Returns where the words of a line about a BSS belong: the summary, or an object in its list `bsses` if there are several."""
+    if words[-2:-1] != ["bss"]:
+        return found
+    bsses: list[Fields] = found.setdefault("bsses", [])
+    number = int(words[-1])
+    if number == len(bsses):
+        bsses.append({"bss": number})
+    return bsses[number]
+
+
 def read_summary(texts: list[str]) -> Fields:
     """Returns what the lines of a summary say; the frames are a `struct wf_tally`."""
     found: Fields = {"kind": "summary", "shares": []}
@@ -132,9 +143,9 @@ def read_summary(texts: list[str]) -> Fields:
         elif word == "sta":
             found["shares"].append(read_share(words))
         elif word == "group":
-            found["group"] = {"accepted": int(words[0]), **dict(zip(words[1::2], map(int, words[2::2])))}
+            fields_of_bss(found, words)["group"] = {"accepted": int(words[0]), **dict(zip(words[1:7:2], map(int, words[2:7:2])))}
         elif word == "tim":
-            found["tim"] = words[0]
+            fields_of_bss(found, words)["tim"] = words[0]
     return found
 
 

@@ -1,5 +1,6 @@
 """The packets on the air in the run of a trace, by the trace's calls and the answers that `wf replay` gives."""
 import random
+from collections import Counter
 from collections.abc import Iterator, Sequence
 from dataclasses import dataclass, field
 
@@ -83,6 +84,12 @@ def period_of(trace: str) -> int:
     return next((max(1, int(word.removeprefix("period="))) for word in words if word.startswith("period=")), 1)
 
 
+def bss_of(call: Sequence[str]) -> str:
+    """Returns the BSS of a call about group frames."""
+    words = call[2:] if call[0] == "group" else call[1:]
+    return words[0] if words else "0"
+
+
 def calls_of(trace: str) -> list[list[str]]:
     """Returns the words of each call, without its caller."""
     lines = [line.split() for line in trace.splitlines() if line.strip() and not line.lstrip().startswith("#")]
@@ -102,7 +109,8 @@ class Exchange:
 @dataclass
 class Air:
     """The run of a trace: the clock, the accepted frames, the open exchanges, those frames that were sent in an exchange
-    that ended, the lengths of group frames, the sequence numbers that these and beacons took, and the packets so far.
+    that ended, by BSS the lengths of group frames and how many sequence numbers these and beacons took, and the packets
+    so far.
     `batches` has the numbers of each batch, `aids` the AIDs of each beacon, and `period` the DTIM period.
     """
 
@@ -114,19 +122,26 @@ class Air:
     frames: dict[str, Frame] = field(default_factory=dict)
     opened: dict[str, Exchange] = field(default_factory=dict)
     tried: set[str] = field(default_factory=set)
-    groups: dict[str, int] = field(default_factory=dict)
-    numbers: int = 0
+    groups: dict[tuple[str, str], int] = field(default_factory=dict)
+    numbers: Counter[str] = field(default_factory=Counter)
     packets: list[Packet] = field(default_factory=list)
 
     def put(self, octets: bytes, said: Beacon | None = None) -> None:
         """Adds a packet at the time of the clock."""
         self.packets.append(Packet(self.clock // MICROSECONDS, self.clock % MICROSECONDS, octets, missing=0, beacon=said))
 
-    def send_beacon(self, count: int, bit: int) -> None:
-        """Adds the beacon of an answer."""
-        said = Beacon(count, self.period, bit, self.aids.pop(0))
-        self.put(beacon(self.numbers, self.clock, said), said)
-        self.numbers += 1
+    def take_group(self, call: Sequence[str], answer: Sequence[str]) -> None:
+        """Takes a call about group frames and its answer."""
+        bss = bss_of(call)
+        if answer[0] == "queued":
+            self.groups[bss, answer[1]] = int(call[1])
+        elif answer[0] == "beacon":
+            said = Beacon(int(answer[1]), self.period, int(answer[2]), self.aids.pop(0))
+            self.put(beacon(self.numbers[bss], self.clock, said), said)
+            self.numbers[bss] += 1
+        elif answer[0] == "gsend":
+            self.put(group(self.numbers[bss] % 4096, answer[-1] == "more", self.groups[bss, answer[1]]))
+            self.numbers[bss] += 1
 
     def send(self, answer: Sequence[str]) -> None:
         """Adds the packets of an answer `send`."""
@@ -139,7 +154,9 @@ class Air:
         for left, word, seq in zip(reversed(range(len(sent))), sent, numbers, strict=True):
             frame = word.split(":")[0]
             duration = PLAIN_DURATION if answer[8] == "plain" else DURATION
-            how = Sent(tid, seq % 4096, frame in self.tried, "more" in bits, "eosp" in bits and left == 0, duration)
+            ends = "eosp" in bits and left == 0
+            has_more = "more" in bits or ("eosp" in bits and not ends)
+            how = Sent(tid, seq % 4096, frame in self.tried, has_more, ends, duration)
             self.put(data(number, how, self.frames[frame]))
             opened.frames.append(frame)
 
@@ -151,13 +168,8 @@ class Air:
             self.frames[answer[1]] = Frame(int(call[3]), int(call[4]))
         elif answer[0] == "send":
             self.send(answer)
-        elif answer[0] == "queued":
-            self.groups[answer[1]] = int(call[1])
-        elif answer[0] == "beacon":
-            self.send_beacon(int(answer[1]), int(answer[2]))
-        elif answer[0] == "gsend":
-            self.put(group(self.numbers % 4096, answer[-1] == "more", self.groups[answer[1]]))
-            self.numbers += 1
+        elif call[0] in ("group", "beacon", "gpull"):
+            self.take_group(call, answer)
         elif answer[0] == "ba":
             opened = self.opened[call[1]]
             self.put(block_ack(opened.station, opened.tid, int(answer[1]), answer[2]))
@@ -193,7 +205,8 @@ def agreement(draw: random.Random) -> str:
 
 def group_call(draw: random.Random) -> str:
     """Returns a call about group frames."""
-    return draw.choice((f"group {draw.randint(1, 300)}", f"group {draw.randint(1, 300)}", "beacon", "gpull", "gpull", "gdone"))
+    call = draw.choice((f"group {draw.randint(1, 300)}", f"group {draw.randint(1, 300)}", "beacon", "gpull", "gpull", "gdone"))
+    return f"{call}{draw.choice(('', '', ' 0', ' 1'))}"
 
 
 def service(draw: random.Random) -> Iterator[str]:
@@ -228,10 +241,12 @@ def made_trace(seed: int) -> str:
     """Returns a generated trace of a few calls: stations join, frames come, and exchanges take place."""
     draw = random.Random(seed)
     groups = f" period={draw.choice((0, 1, 2, 5))} buffered={draw.choice((1, 9))}" if draw.random() < 0.5 else ""
+    groups += draw.choice(("", "", " bsses=2"))
     lines = [f"cell attempts={draw.randint(1, 3)} agg={draw.choice((1, 4, 64))}{groups}"]
     for number in range(draw.randint(1, 3)):
         start, window = draw.randint(0, 4095), draw.choice((1, 2, 8, 64, 65, 256))
         is_plain = draw.random() < 0.3
         lines.append(f"plain {number} {start} 3" if is_plain else f"join {number} {window} {start} 3")
+        lines += [f"bss {number} 1"] * draw.choice((0, 0, 1))
     lines += exchanges(draw, draw.randint(1, 5))
     return "\n".join([*lines, draw.choice(("end", "end", "stop"))]) + "\n"

@@ -38,6 +38,7 @@ LIKELY = {
     "legacy": (1, 2, 2),
     "period": (1, 2, 3),
     "buffered": (1, 2, 8, 128),
+    "bsses": (1, 2, 2, 3),
 }
 # How often a setting is in a head, if not three times in ten. With little room most calls do nothing.
 CHANCE = {"stations": 0.6, "room": 0.06, "limit": 0.25, "calls": 0.0, "pending": 0.6, "buffered": 0.5}
@@ -57,7 +58,7 @@ FRAMES = (1, 1, 2, 3, 8, 64, 65_535)
 LIMITS = (1, 40, 100, 300, 1000, 3000, 3001, 2**32 - 1)
 KINDS = (
     "join leave rate ampdu weight tick burst pull arrive answer done unsent giveup flush play back sleep wake poll stop start "
-    "rx reap agree hold begin free cease far group beacon apsd trigger eosp wild"
+    "rx reap agree hold begin free cease far group beacon bss apsd trigger eosp wild"
 ).split()
 
 
@@ -125,7 +126,7 @@ class Maker:
         self.set_weights(join=0.1, leave=0.05, rate=0.2, sleep=0.15, wake=0.3, poll=0.4)
         self.set_weights(play=3.0, answer=0.4, rx=0.1, reap=0.3, wild=0.05, ampdu=0.1, stop=0.1, start=0.3)
         self.set_weights(unsent=0.2, giveup=0.2, flush=0.15, weight=0.3, back=2.0)
-        self.set_weights(group=0.3, beacon=0.3)
+        self.set_weights(group=0.3, beacon=0.3, bss=0.2)
         self.set_weights(apsd=draw.choice((0.0, 0.3, 2.0)), trigger=0.6, eosp=0.05)
         self.set_weights(agree=draw.choice((0.0, 0.3, 3.0)), hold=0.05, begin=0.05, free=0.05, cease=0.05, far=0.0)
         count = self.machine.settings.stations
@@ -523,26 +524,46 @@ class Maker:
         """Yields a few reaps."""
         yield from ["reap"] * self.draw.choice((1, 3, 10))
 
+    def bss(self) -> int:
+        """Returns mostly a BSS that exists."""
+        count = len(self.machine.groups)
+        return self.draw.randrange(count) if self.draw.random() < 0.97 else self.draw.choice((count, 255))
+
+    def which(self, bss: int) -> str:
+        """Returns the last word of a call about a BSS, which may be left out if the BSS is 0."""
+        return "" if bss == 0 and self.draw.random() < 0.8 else f" {bss}"
+
+    def make_bss(self) -> Iterator[str]:
+        """Yields a change of a BSS, mostly of a station that is awake, and often its sleep."""
+        if len(self.machine.groups) == 1 and self.draw.random() < 0.8:
+            return
+        awake = [held.number for held in self.machine.stations.values() if not held.asleep]
+        station = self.draw.choice(awake) if awake and self.draw.random() < 0.9 else self.station()
+        yield f"bss {station} {self.bss()}"
+        if self.draw.random() < 0.4:
+            yield f"sleep {station}"
+
     def make_group(self) -> Iterator[str]:
         """Yields group frames, often more than have room, or the transmission of one."""
-        group = self.machine.group
+        bss = self.bss()
         if self.machine.settings.buffered == 0 and self.draw.random() < 0.9:
             return
         if self.draw.random() < 0.5:
-            yield from [f"group {self.draw.choice(self.lengths)}"] * self.draw.choice((1, 2, 3, 9))
+            yield from [f"group {self.draw.choice(self.lengths)}{self.which(bss)}"] * self.draw.choice((1, 2, 3, 9))
             return
-        yield "gpull"
-        if group.flying is not None and self.draw.random() < 0.9:
-            yield "gdone"
+        yield f"gpull{self.which(bss)}"
+        if self.draw.random() < 0.9 and any(group.flying is not None for group in self.machine.groups[bss : bss + 1]):
+            yield f"gdone{self.which(bss)}"
 
     def make_beacon(self) -> Iterator[str]:
         """Yields a beacon, and often all group frames that may follow it."""
-        yield "beacon"
-        group = self.machine.group
-        while group.may_go(self.machine.sleeps) and self.draw.random() < 0.8:
-            yield "gpull"
-            if self.draw.random() < 0.9:
-                yield "gdone"
+        bss = self.bss()
+        yield f"beacon{self.which(bss)}"
+        for group in self.machine.groups[bss : bss + 1]:
+            while group.may_go(self.machine.sleeps(bss)) and self.draw.random() < 0.8:
+                yield f"gpull{self.which(bss)}"
+                if self.draw.random() < 0.9:
+                    yield f"gdone{self.which(bss)}"
 
     def make_wild(self) -> Iterator[str]:
         """Yields any call."""
