@@ -2,8 +2,8 @@
 line `end`.
 
 The environment steers it: WF_TEST_ANSWERS names the file. If an answer is a fault, it writes the line on
-standard error that the program writes, and ends with status 2. As `frames` it writes the whole file after it
-has read its input. """
+standard error that the program writes, and ends with status 2. If nobody reads its output, it ends with status
+4. As `frames` it writes the whole file after it has read its input. """
 from __future__ import annotations
 
 import sys
@@ -16,8 +16,11 @@ with open(os.environ["WF_TEST_ANSWERS"]) as file:
     answers = file.read().splitlines(True)
 
 def write(text):
-    sys.stdout.write(text)
-    sys.stdout.flush()
+    try:
+        sys.stdout.write(text)
+        sys.stdout.flush()
+    except BrokenPipeError:
+        os._exit(4)
     if text.startswith("fault"):
         sys.stderr.write("{fault}")
         sys.exit(2)
